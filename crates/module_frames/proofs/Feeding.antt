@@ -1,0 +1,57 @@
+-- What a reader of frames answers to a piece.
+use Rattle.std.proofs.Common.{◌≡◌, ◌≤◌, ◌<◌, ◌+◌, ◌-◌, ◌++◌, ℕ, true, false, List, [], length, take, drop, refl, sym, ◌∙◌, ap, arith, length-append}
+use Rattle.std.specs.Prelude.{min}
+use Rattle.std.proofs.lemmas.List.{append_assoc, length-take-le, length-drop, take_all}
+use Rattle.std.proofs.Math.Seq.{take-add}
+use Rattle.module_frames.specs.declared.frames.Fed.TheVariants as fed
+use Rattle.module_frames.specs.Streams.{body_length}
+use Rattle.module_frames.specs.Fragments.{Fragment, Feeds, IsPartial, IsBroken, Stands}
+use Rattle.module_frames.proofs.Headers.{body_length-append}
+
+-- a piece was taken in two steps: so many bytes for the header, and so many of those behind for the body
+pub record TakenTwice (old mid new : Fragment) (piece : List ℕ) (head body : ℕ) : Type 0 where
+  pub within : head ≤ length piece
+  pub first : mid ≡ record old { bytes = old.bytes ++ take head piece }
+  pub fits : body ≤ length (drop head piece)
+  pub second : new ≡ record mid { bytes = mid.bytes ++ take body (drop head piece) }
+
+-- both steps are one
+pub taken_once : {old mid new : Fragment} {piece : List ℕ} {head body : ℕ} → TakenTwice old mid new piece head body
+    → new ≡ record old { bytes = old.bytes ++ take (head + body) piece }
+taken_once {old} {mid} {new} {piece} {head} {body} taken =
+    taken.second ∙ ap (λ (m : Fragment). record m { bytes = m.bytes ++ take body (drop head piece) }) taken.first
+    ∙ ap (λ xs. record old { bytes = xs })
+    (append_assoc old.bytes (take head piece) (take body (drop head piece)) ∙ ap (λ xs. old.bytes ++ xs) (sym (take-add head body piece)))
+
+pub feeds_whole : {old mid new : Fragment} {piece : List ℕ} {head body : ℕ} → old.broken ≡ false → TakenTwice old mid new piece head body → Stands new
+    → Feeds old piece (fed.Whole (head + body)) new
+feeds_whole {old} {mid} {new} {piece} {head} {body} sound taken stands = record {
+  before_fault = λ _. (omega (arith, taken.within, taken.fits, length-drop head piece), taken_once taken, stands);
+  after_fault = λ broken. cc;
+}
+
+pub feeds_more : {old mid new : Fragment} {piece : List ℕ} {head body : ℕ} → old.broken ≡ false → TakenTwice old mid new piece head body
+    → head + body ≡ length piece → IsPartial new.bytes → Feeds old piece fed.More new
+feeds_more {old} {mid} {new} {piece} {head} {body} sound taken all partial = record {
+  before_fault = λ _. (taken_once taken ∙ ap (λ xs. record old { bytes = old.bytes ++ xs }) (take_all (head + body) piece (omega (arith, all))), partial);
+  after_fault = λ broken. cc;
+}
+
+pub feeds_fault : {old new : Fragment} {piece : List ℕ} → old.broken ≡ false → new ≡ record old { bytes = []; broken = true }
+    → IsBroken (old.bytes ++ piece) → Feeds old piece fed.BadFrame new
+feeds_fault sound gone fault = record { before_fault = λ _. (gone, fault); after_fault = λ broken. cc }
+
+pub feeds_broken : {old : Fragment} {piece : List ℕ} → old.broken ≡ true → Feeds old piece fed.BadFrame old
+feeds_broken broken = record { before_fault = λ sound. cc; after_fault = λ _. (refl, refl) }
+
+-- where the body isn't whole, all of the piece was taken
+pub all_taken : {old mid new : Fragment} {piece : List ℕ} {head body : ℕ} → TakenTwice old mid new piece head body → 8 ≤ length mid.bytes
+    → body ≡ min (8 + body_length mid.bytes - length mid.bytes) (length (drop head piece))
+    → (8 ≤ length new.bytes → length new.bytes < 8 + body_length new.bytes) → head + body ≡ length piece
+all_taken {old} {mid} {new} {piece} {head} {body} taken headed many short =
+    let bytes : new.bytes ≡ mid.bytes ++ take body (drop head piece) = ap (λ (f : Fragment). f.bytes) taken.second in
+    let long : length new.bytes ≡ length mid.bytes + body =
+    ap length bytes ∙ length-append mid.bytes (take body (drop head piece)) ∙ ap (λ n. length mid.bytes + n) (length-take-le body (drop head piece) taken.fits) in
+    let told : body_length new.bytes ≡ body_length mid.bytes = ap body_length bytes ∙ body_length-append mid.bytes (take body (drop head piece)) headed in
+    let less = short (omega (arith, long, headed)) in
+    omega (arith, long, told, less, many, length-drop head piece, taken.within)

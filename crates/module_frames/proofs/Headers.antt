@@ -1,0 +1,106 @@
+-- The first eight bytes: what they tell, and what shows in more bytes.
+use Rattle.std.proofs.Common.{◌≡◌, ◌≤◌, ◌<◌, ◌++◌, ℕ, zero, suc, Bool, true, false, List, [], ◌∷◌, Option, Some, None, length, get_or, refl, arith, if◌then◌else◌}
+use Rattle.std.specs.Prelude.{IsSome, nat_lt}
+use Rattle.std.specs.Int.{from_be_bytes, w32}
+use Rattle.module_frames.specs.Streams.{first_fault, body_length, length_bytes, is_too_long}
+
+-- with nothing there is no fault
+pub first_fault-nil : first_fault [] ≡ None
+unfolding first_fault body_length
+first_fault-nil = refl
+
+one_test : (p : Bool) (y : Option ℕ) → IsSome {T = ℕ} (if p then Some 0 else None) → IsSome {T = ℕ} (if p then Some 0 else y)
+one_test true y h = h
+one_test false y h = cc
+
+two_tests : (p q : Bool) (y : Option ℕ) → IsSome {T = ℕ} (if p then Some 0 else if q then Some 1 else None) → IsSome {T = ℕ} (if p then Some 0 else if q then Some 1 else y)
+two_tests true q y h = h
+two_tests false q y h = elim q as (λ v. IsSome {T = ℕ} (if v then Some 1 else None) → IsSome {T = ℕ} (if v then Some 1 else y)) [ true ↦ λ k. k | false ↦ λ k. cc ] h
+
+three_tests : (p q r : Bool) (y : Option ℕ) → IsSome {T = ℕ} (if p then Some 0 else if q then Some 1 else if r then Some 3 else None)
+    → IsSome {T = ℕ} (if p then Some 0 else if q then Some 1 else if r then Some 3 else y)
+three_tests true q r y h = h
+three_tests false true r y h = h
+three_tests false false true y h = h
+three_tests false false false y h = cc
+
+-- a fault that shows stays, however the bytes go on
+pub fault_stays : (bytes more : List ℕ) → IsSome (first_fault bytes) → IsSome (first_fault (bytes ++ more))
+unfolding first_fault body_length
+fault_stays [] more h = cc
+fault_stays (a ∷ []) more h = one_test _ _ h
+fault_stays (a ∷ b ∷ []) more h = two_tests _ _ _ h
+fault_stays (a ∷ b ∷ c ∷ []) more h = two_tests _ _ _ h
+fault_stays (a ∷ b ∷ c ∷ d ∷ []) more h = three_tests _ _ _ _ h
+fault_stays (a ∷ b ∷ c ∷ d ∷ e ∷ []) more h = three_tests _ _ _ _ h
+fault_stays (a ∷ b ∷ c ∷ d ∷ e ∷ f ∷ []) more h = three_tests _ _ _ _ h
+fault_stays (a ∷ b ∷ c ∷ d ∷ e ∷ f ∷ g ∷ []) more h = three_tests _ _ _ _ h
+fault_stays (a ∷ b ∷ c ∷ d ∷ e ∷ f ∷ g ∷ h ∷ rest) more k = k
+
+-- bytes with a whole header in front
+pub record HeadedBytes (bytes : List ℕ) : Type 0 where
+  pub a : ℕ
+  pub b : ℕ
+  pub c : ℕ
+  pub d : ℕ
+  pub e : ℕ
+  pub f : ℕ
+  pub g : ℕ
+  pub h : ℕ
+  pub rest : List ℕ
+  pub is : bytes ≡ a ∷ b ∷ c ∷ d ∷ e ∷ f ∷ g ∷ h ∷ rest
+
+pub headed : (bytes : List ℕ) → 8 ≤ length bytes → HeadedBytes bytes
+headed [] k = absurd (omega arith)
+headed (a ∷ []) k = absurd (omega arith)
+headed (a ∷ b ∷ []) k = absurd (omega arith)
+headed (a ∷ b ∷ c ∷ []) k = absurd (omega arith)
+headed (a ∷ b ∷ c ∷ d ∷ []) k = absurd (omega arith)
+headed (a ∷ b ∷ c ∷ d ∷ e ∷ []) k = absurd (omega arith)
+headed (a ∷ b ∷ c ∷ d ∷ e ∷ f ∷ []) k = absurd (omega arith)
+headed (a ∷ b ∷ c ∷ d ∷ e ∷ f ∷ g ∷ []) k = absurd (omega arith)
+headed (a ∷ b ∷ c ∷ d ∷ e ∷ f ∷ g ∷ h ∷ rest) k =
+    record { a = a; b = b; c = c; d = d; e = e; f = f; g = g; h = h; rest = rest; is = refl }
+
+-- a whole header tells the fault, whatever follows
+pub first_fault-append : (header more : List ℕ) → 8 ≤ length header → first_fault (header ++ more) ≡ first_fault header
+unfolding first_fault body_length
+first_fault-append header more k = rw (headed header k).is refl
+
+-- a whole header tells the length, whatever follows
+pub body_length-append : (header more : List ℕ) → 8 ≤ length header → body_length (header ++ more) ≡ body_length header
+unfolding body_length
+body_length-append header more k = rw (headed header k).is refl
+
+-- the length is in the bytes 4 to 7
+pub body_length-bytes : (header : List ℕ) → 8 ≤ length header
+    → body_length header ≡ from_be_bytes w32 (get_or header 4 0 ∷ get_or header 5 0 ∷ get_or header 6 0 ∷ get_or header 7 0 ∷ [])
+unfolding body_length
+body_length-bytes header k = rw (headed header k).is refl
+
+pub length_bytes-bytes : (header : List ℕ) → 8 ≤ length header
+    → length_bytes header ≡ get_or header 4 0 ∷ get_or header 5 0 ∷ get_or header 6 0 ∷ get_or header 7 0 ∷ []
+length_bytes-bytes header k = rw (headed header k).is refl
+
+-- with fewer bytes than a header there is no length
+pub short_is_not_too_long : (header : List ℕ) → length header < 8 → is_too_long header ≡ false
+short_is_not_too_long [] k = refl
+short_is_not_too_long (a ∷ []) k = refl
+short_is_not_too_long (a ∷ b ∷ []) k = refl
+short_is_not_too_long (a ∷ b ∷ c ∷ []) k = refl
+short_is_not_too_long (a ∷ b ∷ c ∷ d ∷ []) k = refl
+short_is_not_too_long (a ∷ b ∷ c ∷ d ∷ e ∷ []) k = refl
+short_is_not_too_long (a ∷ b ∷ c ∷ d ∷ e ∷ f ∷ []) k = refl
+short_is_not_too_long (a ∷ b ∷ c ∷ d ∷ e ∷ f ∷ g ∷ []) k = refl
+short_is_not_too_long (a ∷ b ∷ c ∷ d ∷ e ∷ f ∷ g ∷ h ∷ rest) k = absurd (omega arith)
+
+pub is_too_long-headed : (header : List ℕ) → 8 ≤ length header → is_too_long header ≡ nat_lt 65600 (body_length header)
+is_too_long-headed header k = rw (headed header k).is refl
+
+-- four bytes are bytes at each place
+pub four_fit : (a b c d : ℕ) → a < 256 → b < 256 → c < 256 → d < 256 → (i : ℕ) → get_or (a ∷ b ∷ c ∷ d ∷ []) i 0 < 256
+four_fit a b c d ha hb hc hd zero = ha
+four_fit a b c d ha hb hc hd (suc zero) = hb
+four_fit a b c d ha hb hc hd (suc (suc zero)) = hc
+four_fit a b c d ha hb hc hd (suc (suc (suc zero))) = hd
+four_fit a b c d ha hb hc hd (suc (suc (suc (suc i)))) = omega arith

@@ -1,0 +1,24 @@
+-- Parts that are written one behind the other.
+use Rattle.std.proofs.Common.{◌≡◌, ◌++◌, ℕ, List, [], length, drop, refl, sym, ◌∙◌, ap, arith}
+use Rattle.std.proofs.lemmas.List.{take_at, drop_at, drop-drop, drop_all, append_assoc, append-nil, length-append}
+use borrow.Rule.Slice.PartMut.{put_mid}
+
+-- a part written behind a front
+pub put_behind : (n k : ℕ) (front rest part : List ℕ) → length front ≡ n → put_mid n k (front ++ rest) part ≡ (front ++ part) ++ drop k rest
+put_behind n k front rest part h = rw (take_at front rest n h, drop_at front rest n h) (sym (append_assoc front part (drop k rest)))
+
+-- the four parts of a header
+pub four_parts : (into a b c d : List ℕ) → length into ≡ 24 → length a ≡ 6 → length b ≡ 2 → length c ≡ 12
+    → put_mid 20 4 (put_mid 8 12 (put_mid 6 2 (a ++ drop 6 into) b) c) d ≡ a ++ (b ++ (c ++ d))
+four_parts into a b c d h ha hb hc =
+    let ab : length (a ++ b) ≡ 8 = length-append a b ∙ rw (ha, hb) refl in
+    let abc : length ((a ++ b) ++ c) ≡ 20 = length-append (a ++ b) c ∙ rw (ab, hc) refl in
+    let none : drop 4 (drop 12 (drop 2 (drop 6 into))) ≡ [] =
+    rw (drop-drop 2 6 into, drop-drop 12 8 into, drop-drop 4 20 into) (drop_all 24 into (omega arith)) in
+    ap (λ xs. put_mid 20 4 (put_mid 8 12 xs c) d) (put_behind 6 2 a (drop 6 into) b ha)
+    ∙ ap (λ xs. put_mid 20 4 xs d) (put_behind 8 12 (a ++ b) (drop 2 (drop 6 into)) c ab)
+    ∙ put_behind 20 4 ((a ++ b) ++ c) (drop 12 (drop 2 (drop 6 into))) d abc
+    ∙ ap (λ xs. (((a ++ b) ++ c) ++ d) ++ xs) none
+    ∙ append-nil _
+    ∙ append_assoc (a ++ b) c d
+    ∙ append_assoc a b (c ++ d)

@@ -1,0 +1,17 @@
+use Rattle.std.proofs.Common.{refl, arith}
+use Rattle.module_frames.proofs.Headers.{first_fault-nil}
+use Rattle.module_frames.proofs.Holding.{length-held}
+use Rattle.module_frames.proofs.frames.Frames.clear.Goals as goal
+
+pub invariant_of-self : goal.invariant_of-self
+invariant_of-self c = record {
+  room = refl;
+  few = omega arith;
+  spare = refl;
+  sound = first_fault-nil;
+  headless = λ h. c.clear.ensures;
+  headed = λ h. absurd (omega arith);
+  within = λ h. absurd (omega arith);
+  fresh = λ h. refl;
+  short = rw (c.clear.ensures, c.body.ensures.body) (omega (arith, c.self.invariant.short, length-held c.self.inside c.self.invariant));
+}

@@ -1,0 +1,49 @@
+-- What a reader of frames holds, and what it answers to a piece.
+use Rattle.std.specs.Prelude.{◌≡◌, ◌≤◌, ◌+◌, ℕ, Bool, true, false, List, [], ◌++◌, length, take, IsSome, None}
+use Rattle.module_frames.specs.declared.frames.Fed.{Fed}
+use Rattle.module_frames.specs.declared.frames.Fed.TheVariants as fed
+use Rattle.module_frames.specs.CommandFrames.{CommandFrame, IsCommandFrame}
+use Rattle.module_frames.specs.Streams.{BeginsNoCommand, first_fault}
+
+-- The bytes held, and where in the stream they begin: the frame of a command that stands, or the fragment of one.
+-- Once a fault has come, none is held.
+pub record Fragment : Type 0 where
+  pub offset : ℕ
+  pub bytes : List ℕ
+  pub broken : Bool
+
+abbrev pub new_fragment : Fragment
+new_fragment = record { offset = 0; bytes = []; broken = false }
+
+-- a whole command stands
+abbrev pub Stands : Fragment → Type 0
+Stands held = (command : CommandFrame) × IsCommandFrame command held.bytes
+
+-- a frame may begin so: no fault shows, and no command is whole
+pub record IsPartial (bytes : List ℕ) : Type 0 where
+  pub sound : first_fault bytes ≡ None
+  pub unfinished : BeginsNoCommand bytes
+
+-- the bytes show a fault, and no command is whole
+pub record IsBroken (bytes : List ℕ) : Type 0 where
+  pub fault : IsSome (first_fault bytes)
+  pub unfinished : BeginsNoCommand bytes
+
+-- what is answered to a piece before any fault, and what is held then
+abbrev pub Takes : Fragment → List ℕ → Fed → Fragment → Type 0
+-- all was taken, and a command may go on so
+Takes old piece fed.More new = (new ≡ record old { bytes = old.bytes ++ piece }) × IsPartial new.bytes
+-- so many were taken, and a command is whole
+Takes old piece (fed.Whole count) new =
+    (count ≤ length piece) × (new ≡ record old { bytes = old.bytes ++ take count piece }) × Stands new
+-- a fault shows, and none is held
+Takes old piece fed.BadFrame new = (new ≡ record old { bytes = []; broken = true }) × IsBroken (old.bytes ++ piece)
+
+-- what is answered to a piece, and what is held then: after a fault the answer stays
+pub record Feeds (old : Fragment) (piece : List ℕ) (answer : Fed) (new : Fragment) : Type 0 where
+  pub before_fault : old.broken ≡ false → Takes old piece answer new
+  pub after_fault : old.broken ≡ true → (answer ≡ fed.BadFrame) × (new ≡ old)
+
+-- nothing is held, and the next frame begins behind what was
+abbrev pub cleared_fragment : Fragment → Fragment
+cleared_fragment old = record { offset = old.offset + length old.bytes; bytes = []; broken = old.broken }

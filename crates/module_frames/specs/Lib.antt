@@ -1,0 +1,12 @@
+pub mod Numbers
+pub mod Services
+pub mod Requests
+pub mod CommandFrames
+pub mod Buffers
+pub mod Streams
+pub mod Laws
+pub mod Fragments
+pub mod Readers
+pub mod Steps
+pub mod ReplyFrames
+pub mod Replies

@@ -1,0 +1,23 @@
+-- The forms of bodies: what request a body spells for a service, and else none.
+use Rattle.std.specs.Prelude.{ℕ, ◌==◌, ◌&&◌, nat_le, List, length, Option, Some, None, if◌then◌else◌}
+use Rattle.std.specs.Int.{from_be_bytes, w32}
+use Rattle.module_frames.specs.declared.service.Service.{Service}
+use Rattle.module_frames.specs.declared.service.Service.TheVariants as service
+use Rattle.module_frames.specs.declared.request.Request.{Request}
+use Rattle.module_frames.specs.declared.request.Request.TheVariants as request
+
+-- a period of four bytes, at most 1,000,000
+abbrev pub power_on_of : List ℕ → Option Request
+power_on_of body =
+    if length body == 4 && nat_le (from_be_bytes w32 body) 1000000
+    then Some (request.PowerOn (from_be_bytes w32 body))
+    else None
+
+-- a body without bytes
+abbrev pub empty_of : List ℕ → Request → Option Request
+empty_of body asked = if length body == 0 then Some asked else None
+
+abbrev pub request_of : Service → List ℕ → Option Request
+request_of service.PowerOn body = power_on_of body
+request_of service.ShowStatus body = empty_of body request.ShowStatus
+request_of service.Reset body = empty_of body request.Reset

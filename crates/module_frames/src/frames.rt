@@ -1,0 +1,214 @@
+// Bytes in any pieces, and the commands that they spell.
+ghost use Rattle.std.specs.Prelude.{◌≡◌, ◌+◌, ◌-◌, ◌^◌, ◌≤◌, ◌<◌, ◌↔◌, ◌++◌, [], true, false, IfOk, IsTrue, IsSome, length, take, drop, min, is_some};
+ghost use Rattle.std.specs.Int.{to_be_bytes, w32};
+ghost use Rattle.module_frames.specs.Streams.{first_fault, body_length, length_bytes, is_wrong_at, is_too_long};
+ghost use Rattle.module_frames.specs.CommandFrames.{IsCommandFrame};
+ghost use Rattle.module_frames.specs.Steps.{TakesHeader};
+ghost use Rattle.module_frames.specs.Fragments.{Feeds, Stands, IsPartial, new_fragment, cleared_fragment};
+
+use crate::Command;
+use crate::command::BODY_MAX;
+use std::alloc::{AllocError, Global};
+use std::marker::Model;
+
+/// What `Frames` answers to a piece.
+#[derive(Clone, Copy, Debug, PartialEq, Eq)]
+pub enum Fed {
+    /// All of the piece was taken, and no command is whole.
+    More,
+    /// So many bytes of the piece were taken, and one command stands.
+    Whole(usize),
+    /// The bytes show a fault.
+    BadFrame,
+}
+
+/// Makes commands of bytes that come in any pieces. Contracts see the bytes held and where in the stream they begin.
+/// By a rule of the type all its memory is zero but for the bytes held.
+#[derive(Drop)]
+pub struct Frames {
+    offset: u64,
+    header: [u8; 8],
+    count: usize,
+    command: Command,
+    broken: bool,
+}
+
+impl Model for Frames {
+    ghost use Rattle.module_frames.specs.Fragments.{Fragment};
+
+    ghost Value = { Fragment };
+
+    ghost use Rattle.module_frames.specs.Readers.{fragment_of, IsReader};
+
+    ghost view = { fragment_of };
+
+    ghost invariant = { IsReader };
+}
+
+// Fills the header up with bytes from the front of the piece, and says how many.
+fn fill(header: &mut [u8; 8], count: usize, piece: &[u8]) -> usize
+    requires { count ≤ 8 }
+    ensures taken { result ≡ min (8 - count) (length piece.now) }
+    ensures bytes { header.new ≡ take count header.old ++ (take result piece.now ++ drop (count + result) header.old) }
+{
+    let taken = piece.len().min(8 - count);
+    header[count..count + taken].copy_from_slice(&piece[..taken]);
+    taken
+}
+
+// Whether the byte at the place is there and isn't the wanted one.
+fn is_wrong_at(header: &[u8], place: usize, wanted: u8) -> bool
+    ensures { result ≡ is_wrong_at header.now place wanted }
+{
+    match header.get(place) {
+        Some(byte) => *byte != wanted,
+        None => false,
+    }
+}
+
+// The length of the body that a whole header tells.
+fn body_length(header: &[u8]) -> usize
+    requires { 8 ≤ length header.now }
+    ensures told { result ≡ body_length header.now }
+    ensures spelled { to_be_bytes w32 result ≡ length_bytes header.now }
+{
+    u32::from_be_bytes([header[4], header[5], header[6], header[7]]) as usize
+}
+
+// Whether a header tells a body that is too long.
+fn is_too_long(header: &[u8]) -> bool
+    ensures { result ≡ is_too_long header.now }
+{
+    header.len() >= 8 && body_length(header) > BODY_MAX
+}
+
+// The place of the first fault that the bytes of a header show.
+#[tactic(auto, unfolding(crate::specs::Streams::first_fault))]
+fn first_fault(header: &[u8]) -> Option<usize>
+    ensures { result ≡ first_fault header.now }
+{
+    if is_wrong_at(header, 0, 0xc5) {
+        Some(0)
+    } else if is_wrong_at(header, 1, 0x01) {
+        Some(1)
+    } else if is_wrong_at(header, 3, 0x00) {
+        Some(3)
+    } else if is_too_long(header) {
+        Some(4)
+    } else {
+        None
+    }
+}
+
+impl Frames {
+    /// Holds nothing; the stream begins.
+    pub fn new(alloc: Global) -> Result<Frames, AllocError>
+        ensures { IfOk result (λ frames. frames ≡ new_fragment) }
+    {
+        let command = Command::new(alloc)?;
+        Ok(Frames {
+            offset: 0,
+            header: [0; 8],
+            count: 0,
+            command,
+            broken: false,
+        })
+    }
+
+    // Fills the header up, and says how many bytes it took, or that the bytes show a fault.
+    fn take_header(&mut self, piece: &[u8]) -> Option<usize>
+        requires sound { self.old.broken ≡ false }
+        requires short { self.old.offset + length self.old.bytes + length piece.now ≤ 2 ^ 63 }
+        ensures { TakesHeader self.old piece.now result self.new }
+    {
+        if self.count == 8 {
+            return Some(0);
+        }
+        let taken = fill(&mut self.header, self.count, piece);
+        self.count += taken;
+        if first_fault(&self.header[..self.count]).is_some() {
+            self.header = [0; 8];
+            self.count = 0;
+            self.broken = true;
+            return None;
+        }
+        if self.count == 8 {
+            self.command.start(self.header[2]);
+        }
+        Some(taken)
+    }
+
+    // Takes bytes of the body, and says how many.
+    fn take_body(&mut self, piece: &[u8]) -> usize
+        requires sound { self.old.broken ≡ false }
+        requires headed { 8 ≤ length self.old.bytes }
+        requires short { self.old.offset + length self.old.bytes + length piece.now ≤ 2 ^ 63 }
+        ensures taken { result ≡ min (8 + body_length self.old.bytes - length self.old.bytes) (length piece.now) }
+        ensures held { self.new ≡ record self.old { bytes = self.old.bytes ++ take result piece.now } }
+    {
+        let missing = body_length(&self.header) - self.command.body().len();
+        let taken = missing.min(piece.len());
+        self.command.push(&piece[..taken]);
+        taken
+    }
+
+    // Whether a whole command stands; where none does, one may go on so.
+    fn is_whole(&self) -> bool
+        requires { self.now.broken ≡ false }
+        ensures whole { result ≡ true → Stands self.now }
+        ensures partial { result ≡ false → IsPartial self.now.bytes }
+        ensures short { result ≡ false → 8 ≤ length self.now.bytes → length self.now.bytes < 8 + body_length self.now.bytes }
+    {
+        self.count == 8 && self.command.body().len() == body_length(&self.header)
+    }
+
+    /// Takes bytes from the front of the next piece of the stream, up to the end of a command.
+    /// Once it has answered `BadFrame` it holds nothing, and answers so for good.
+    /// Where a command stands it takes nothing, and answers `Whole(0)`.
+    /// All pieces of a stream together have at most 2^63 bytes.
+    pub fn feed(&mut self, piece: &[u8]) -> Fed
+        requires { self.old.offset + length self.old.bytes + length piece.now ≤ 2 ^ 63 }
+        ensures { Feeds self.old piece.now result self.new }
+    {
+        if self.broken {
+            return Fed::BadFrame;
+        }
+        let Some(head) = self.take_header(piece) else {
+            return Fed::BadFrame;
+        };
+        if self.count < 8 {
+            return Fed::More;
+        }
+        let taken = head + self.take_body(&piece[head..]);
+        if self.is_whole() {
+            Fed::Whole(taken)
+        } else {
+            Fed::More
+        }
+    }
+
+    /// The command that stands.
+    pub fn command(&self) -> &Command
+        requires { Stands self.now }
+        ensures { IsCommandFrame result.now self.now.bytes }
+    {
+        &self.command
+    }
+
+    /// Forgets what is held, a fragment or the command that stands. No byte of it stays.
+    pub fn clear(&mut self)
+        ensures { self.new ≡ cleared_fragment self.old }
+    {
+        self.offset += (self.count + self.command.body().len()) as u64;
+        self.header = [0; 8];
+        self.count = 0;
+        self.command.clear();
+    }
+
+    /// Whether the stream may end here: nothing is held, and no fault came.
+    pub fn at_boundary(&self) -> bool
+        ensures { IsTrue result ↔ ((self.now.bytes ≡ []) × (self.now.broken ≡ false)) }
+    {
+        self.count == 0 && !self.broken
+    }
+}

@@ -1,0 +1,41 @@
+// What the body of a command asks for.
+ghost use Rattle.std.specs.Prelude.{◌≡◌};
+ghost use Rattle.module_frames.specs.Requests.{request_of, power_on_of};
+
+use crate::Service;
+
+/// The largest period that a module may have.
+pub const PERIOD_MAX: u32 = 1_000_000;
+
+/// A command whose body was read.
+#[derive(Clone, Copy, Debug, PartialEq, Eq)]
+pub enum Request {
+    /// Power on, with tests again after so many uses, or with 0 never.
+    PowerOn { period: u32 },
+    ShowStatus,
+    Reset,
+}
+
+/// The request that the body spells for the service. `None` exactly where the body isn't of the service's form:
+/// a number of four bytes, at most 1,000,000, for `PowerOn`, and no byte for the others.
+pub fn read_request(service: Service, body: &[u8]) -> Option<Request>
+    ensures { result ≡ request_of service body.now }
+{
+    match service {
+        Service::PowerOn => read_power_on(body),
+        Service::ShowStatus => body.is_empty().then_some(Request::ShowStatus),
+        Service::Reset => body.is_empty().then_some(Request::Reset),
+    }
+}
+
+fn read_power_on(body: &[u8]) -> Option<Request>
+    ensures { result ≡ power_on_of body.now }
+{
+    match body {
+        [a, b, c, d] => {
+            let period = u32::from_be_bytes([*a, *b, *c, *d]);
+            (period <= PERIOD_MAX).then_some(Request::PowerOn { period })
+        }
+        _ => None,
+    }
+}

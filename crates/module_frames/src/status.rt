@@ -1,0 +1,30 @@
+// What a reply says of its command.
+ghost use Rattle.std.specs.Prelude.{◌≡◌};
+ghost use Rattle.module_frames.specs.Numbers.{status_number};
+
+/// The status of a reply: done, or the first reason of refusal.
+#[derive(Clone, Copy, Debug, PartialEq, Eq)]
+pub enum Status {
+    /// The service was done.
+    Ok,
+    /// The number is that of no service.
+    UnknownService,
+    /// The service isn't permitted in the state that the command found.
+    NotInState,
+    /// The body isn't of the service's form.
+    BadBody,
+}
+
+impl Status {
+    /// The number that a reply gives the status.
+    pub fn number(self) -> u8
+        ensures { result ≡ status_number self }
+    {
+        match self {
+            Status::Ok => 0,
+            Status::UnknownService => 1,
+            Status::NotInState => 2,
+            Status::BadBody => 3,
+        }
+    }
+}
