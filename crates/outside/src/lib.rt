@@ -6,6 +6,8 @@ mod memory_source;
 mod schedule;
 mod std_sink;
 mod std_source;
+#[cfg(test)]
+mod tests;
 mod traits;
 
 pub use memory_sink::MemSink;
