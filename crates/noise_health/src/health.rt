@@ -16,7 +16,7 @@ pub enum HealthFault {
     Proportion,
 }
 
-/// The counters of both tests.
+/// The counters of both tests. They hold raw noise, so they have no `Debug`.
 #[derive(Clone, Copy)]
 pub struct Health {
     last: u8,
@@ -49,8 +49,10 @@ impl Health {
     /// from the first). After a fault only a new `Health` may be fed.
     pub fn feed(&mut self, sample: u8) -> Option<HealthFault>
         requires { (samples : List ℕ) × Counts self.old samples }
-        ensures signal { (samples : List ℕ) → Counts self.old samples → result ≡ health_signal (samples ++ sample ∷ []) }
-        ensures counts { (samples : List ℕ) → Counts self.old samples → result ≡ None → Counts self.new (samples ++ sample ∷ []) }
+        ensures signal { (samples : List ℕ) → Counts self.old samples →
+            result ≡ health_signal (samples ++ sample ∷ []) }
+        ensures counts { (samples : List ℕ) → Counts self.old samples → result ≡ None →
+            Counts self.new (samples ++ sample ∷ []) }
     {
         self.count_run(sample);
         self.count_window(sample);
@@ -67,9 +69,10 @@ impl Health {
     fn count_run(&mut self, sample: u8)
         requires { self.old.run < 255 }
         ensures last { self.new.last ≡ sample }
-        ensures run { (samples : List ℕ) → self.old.last ≡ last_of samples → self.old.run ≡ run_at_end samples →
-            self.new.run ≡ run_at_end (samples ++ sample ∷ []) }
-        ensures window { (self.new.first ≡ self.old.first) × (self.new.seen ≡ self.old.seen) × (self.new.hits ≡ self.old.hits) }
+        ensures run { (samples : List ℕ) → self.old.last ≡ last_of samples →
+            self.old.run ≡ run_at_end samples → self.new.run ≡ run_at_end (samples ++ sample ∷ []) }
+        ensures window { (self.new.first ≡ self.old.first) × (self.new.seen ≡ self.old.seen)
+            × (self.new.hits ≡ self.old.hits) }
     {
         if sample == self.last {
             self.run += 1;
@@ -83,9 +86,11 @@ impl Health {
     fn count_window(&mut self, sample: u8)
         requires { (self.old.seen ≤ 512) × (self.old.hits ≤ self.old.seen) }
         ensures window { (samples : List ℕ) → self.old.first ≡ first_of (last_window samples) →
-            self.old.seen ≡ length (last_window samples) → self.old.hits ≡ hits_of (last_window samples) →
+            self.old.seen ≡ length (last_window samples) →
+            self.old.hits ≡ hits_of (last_window samples) →
             let window = last_window (samples ++ sample ∷ []) in
-            (self.new.first ≡ first_of window) × (self.new.seen ≡ length window) × (self.new.hits ≡ hits_of window) }
+            (self.new.first ≡ first_of window) × (self.new.seen ≡ length window)
+            × (self.new.hits ≡ hits_of window) }
         ensures run { (self.new.last ≡ self.old.last) × (self.new.run ≡ self.old.run) }
     {
         if self.seen % WINDOW == 0 {
