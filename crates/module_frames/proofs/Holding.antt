@@ -9,7 +9,7 @@ use Rattle.module_frames.specs.CommandFrames.{CommandFrame, command_spelling, Is
 use Rattle.module_frames.specs.Streams.{first_fault, body_length, length_bytes}
 use Rattle.module_frames.specs.Fragments.{IsPartial, IsBroken}
 use Rattle.module_frames.specs.Readers.{held_by, IsReader}
-use Rattle.module_frames.proofs.Headers.{first_fault-append, body_length-append, fault_stays}
+use Rattle.module_frames.proofs.Headers.{first_fault-append, first_fault-nil, body_length-append, fault_stays}
 use Rattle.module_frames.proofs.Splitting.{same_command}
 use Rattle.module_frames.proofs.Spellings.{length-spelling, headed_frame, short_begins_none, broken_begins_none, sound_length}
 
@@ -167,3 +167,7 @@ filled_reader r piece header count command reader filled fresh short sound same 
       fresh = λ broken. cc;
       short = omega (arith, long, short, filled.taken, (held_short r reader filled.short).0);
     }
+
+-- a frame may begin with nothing
+pub nothing_is_partial : IsPartial []
+nothing_is_partial = record { sound = first_fault-nil; unfinished = short_begins_none [] (inl (omega arith)) }

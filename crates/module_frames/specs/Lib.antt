@@ -10,3 +10,4 @@ pub mod Readers
 pub mod Steps
 pub mod ReplyFrames
 pub mod Replies
+pub mod PublicState

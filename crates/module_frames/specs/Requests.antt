@@ -1,5 +1,5 @@
 -- The forms of bodies: what request a body spells for a service, and else none.
-use Rattle.std.specs.Prelude.{ℕ, ◌==◌, ◌&&◌, nat_le, List, length, Option, Some, None, if◌then◌else◌}
+use Rattle.std.specs.Prelude.{ℕ, ◌≤◌, ◌==◌, ◌&&◌, nat_le, List, length, Option, Some, None, if◌then◌else◌}
 use Rattle.std.specs.Int.{from_be_bytes, w32}
 use Rattle.module_frames.specs.declared.service.Service.{Service}
 use Rattle.module_frames.specs.declared.service.Service.TheVariants as service
@@ -21,3 +21,8 @@ abbrev pub request_of : Service → List ℕ → Option Request
 request_of service.PowerOn body = power_on_of body
 request_of service.ShowStatus body = empty_of body request.ShowStatus
 request_of service.Reset body = empty_of body request.Reset
+
+-- a period that a module may have
+abbrev pub HasPeriodInRange : Request → Type 0
+HasPeriodInRange (request.PowerOn period) = period ≤ 1000000
+HasPeriodInRange other = Unit {0}

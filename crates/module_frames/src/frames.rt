@@ -101,9 +101,10 @@ fn first_fault(header: &[u8]) -> Option<usize>
 }
 
 impl Frames {
-    /// Holds nothing; the stream begins.
+    /// Holds nothing; a stream begins.
     pub fn new(alloc: Global) -> Result<Frames, AllocError>
-        ensures { IfOk result (λ frames. frames ≡ new_fragment) }
+        ensures new { IfOk result (λ frames. frames ≡ new_fragment) }
+        ensures partial { IfOk result (λ frames. IsPartial frames.bytes) }
     {
         let command = Command::new(alloc)?;
         Ok(Frames {
@@ -197,7 +198,8 @@ impl Frames {
 
     /// Forgets what is held, a fragment or the command that stands. No byte of it stays.
     pub fn clear(&mut self)
-        ensures { self.new ≡ cleared_fragment self.old }
+        ensures cleared { self.new ≡ cleared_fragment self.old }
+        ensures partial { IsPartial self.new.bytes }
     {
         self.offset += (self.count + self.command.body().len()) as u64;
         self.header = [0; 8];

@@ -1,6 +1,6 @@
 // What the body of a command asks for.
-ghost use Rattle.std.specs.Prelude.{◌≡◌};
-ghost use Rattle.module_frames.specs.Requests.{request_of, power_on_of};
+ghost use Rattle.std.specs.Prelude.{◌≡◌, IfSome};
+ghost use Rattle.module_frames.specs.Requests.{request_of, power_on_of, HasPeriodInRange};
 
 use crate::Service;
 
@@ -19,7 +19,8 @@ pub enum Request {
 /// The request that the body spells for the service. `None` exactly where the body isn't of the service's form:
 /// a number of four bytes, at most 1,000,000, for `PowerOn`, and no byte for the others.
 pub fn read_request(service: Service, body: &[u8]) -> Option<Request>
-    ensures { result ≡ request_of service body.now }
+    ensures read { result ≡ request_of service body.now }
+    ensures in_range { IfSome result HasPeriodInRange }
 {
     match service {
         Service::PowerOn => read_power_on(body),
@@ -29,7 +30,8 @@ pub fn read_request(service: Service, body: &[u8]) -> Option<Request>
 }
 
 fn read_power_on(body: &[u8]) -> Option<Request>
-    ensures { result ≡ power_on_of body.now }
+    ensures read { result ≡ power_on_of body.now }
+    ensures in_range { IfSome result HasPeriodInRange }
 {
     match body {
         [a, b, c, d] => {

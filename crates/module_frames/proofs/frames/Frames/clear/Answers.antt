@@ -1,6 +1,6 @@
 use Rattle.std.proofs.Common.{refl, arith}
 use Rattle.module_frames.proofs.Headers.{first_fault-nil}
-use Rattle.module_frames.proofs.Holding.{length-held}
+use Rattle.module_frames.proofs.Holding.{length-held, nothing_is_partial}
 use Rattle.module_frames.proofs.frames.Frames.clear.Goals as goal
 
 pub invariant_of-self : goal.invariant_of-self
@@ -15,3 +15,6 @@ invariant_of-self c = record {
   fresh = λ h. refl;
   short = rw (c.clear.ensures, c.body.ensures.body) (omega (arith, c.self.invariant.short, length-held c.self.inside c.self.invariant));
 }
+
+pub returns-clause-partial : goal.returns-clause-partial
+returns-clause-partial c = rw c.clear.ensures nothing_is_partial

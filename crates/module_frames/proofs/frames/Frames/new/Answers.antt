@@ -1,5 +1,6 @@
 use Rattle.std.proofs.Common.{refl, arith}
 use Rattle.module_frames.proofs.Headers.{first_fault-nil}
+use Rattle.module_frames.proofs.Holding.{nothing_is_partial}
 use Rattle.module_frames.proofs.frames.Frames.new.Goals as goal
 
 pub invariant_of-result : goal.invariant_of-result
@@ -14,3 +15,6 @@ invariant_of-result c = record {
   fresh = λ h. refl;
   short = rw c.in_ok-command.ensures (omega arith);
 }
+
+pub returns-clause-partial : goal.returns-clause-partial
+returns-clause-partial c = rw c.in_ok-command.ensures nothing_is_partial

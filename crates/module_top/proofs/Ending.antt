@@ -1,0 +1,49 @@
+-- How serving a stream ends.
+use Rattle.std.proofs.Common.{◌≡◌, ◌++◌, ◌<◌, ◌≤◌, ◌+◌, ℕ, List, [], ◌∷◌, append_assoc, append-nil, sym, refl, ◌∙◌, ap, subst, length, length-append, arith, take, Option, Some, None}
+use Rattle.std.specs.Prelude.{IsSome}
+use Rattle.outside.specs.Contents.{Takes, IsSpent}
+use Rattle.module_frames.specs.Streams.{BeginsNoCommand, first_fault, body_length}
+use Rattle.module_frames.specs.Fragments.{IsPartial, IsBroken}
+use Rattle.state_model.specs.Kept.{Kept}
+use Rattle.state_model.specs.MachineState.{MachineState}
+use Rattle.state_model.specs.Represents.{Represents}
+use Rattle.module_top.specs.declared.serving.Ended.{Ended}
+use Rattle.module_top.specs.declared.serving.Ended.TheVariants as ended
+use Rattle.module_top.specs.Run.{ending_of}
+use Rattle.module_top.specs.Desk.{Desk, Served}
+use Rattle.module_top.specs.Serving.{Streams, Answered, Serves, IsAllOf, stream_max}
+
+-- what was served from the stream's beginning is the run over it
+pub answered_of : {a b : Desk} {taken rest : List ℕ} (left now : Option (List ℕ)) (s : MachineState) → Represents a.module' s → Served a [] taken rest b → BeginsNoCommand rest
+    → Answered s taken rest b.module' (record { left = left; gained = a.gained }) (record { left = now; gained = b.gained })
+answered_of {a} {b} {taken} {rest} left now s represents served unfinished =
+    let did = served.each s represents in
+    record {
+      machine = did.0;
+      out = did.1;
+      runs = record { commands = did.4.commands; splits = record { spelled = did.4.whole; sendable = did.4.sendable; unfinished = unfinished }; ran = did.4.ran };
+      represents = did.2;
+      gained = did.3;
+    }
+
+-- what was taken up to the end is all
+pub all_of : (before mid : Option (List ℕ)) (taken : List ℕ) → Takes before taken mid → IsSpent mid → IsAllOf taken before
+all_of None mid taken takes spent = tt
+all_of (Some all) mid taken takes spent =
+    let none = rw takes.2 at spent in
+    takes.1 ∙ ap (λ xs. taken ++ xs) none ∙ append-nil taken
+
+-- a source that ended
+pub ends_at : (rest : List ℕ) (how : Ended) (taken : List ℕ) (s : MachineState) (m : Kept) (before after : Streams) → how ≡ ending_of rest → first_fault rest ≡ None
+    → Takes before.left taken after.left → Answered s taken rest m before after → length taken < stream_max → IsAllOf taken before.left → Serves how s m before after
+ends_at [] how taken s m before after is sound takes answered less spent =
+    subst (λ h. Serves h s m before after) (sym is) (taken, [], takes, answered, (refl, less, spent))
+ends_at (byte ∷ rest) how taken s m before after is sound takes answered less spent =
+    let truncated : ending_of (byte ∷ rest) ≡ ended.Truncated = rw sound refl in
+    subst (λ h. Serves h s m before after) (sym (is ∙ truncated)) (taken, byte ∷ rest, takes, answered, (truncated, less, spent))
+
+-- a rest that shows a fault
+pub broken_ending : (rest : List ℕ) → IsSome (first_fault rest) → ending_of rest ≡ ended.BadFrame
+unfolding first_fault body_length
+broken_ending [] fault = cc
+broken_ending (byte ∷ rest) fault = rw fault refl

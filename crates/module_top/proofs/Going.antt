@@ -1,0 +1,133 @@
+-- A run goes on, over commands and over pieces.
+use Rattle.std.proofs.Common.{◌≡◌, ◌++◌, ◌<◌, ◌≤◌, ℕ, true, false, List, [], ◌∷◌, append_assoc, append-nil, sym, refl, ◌∙◌, ap, subst, length, length-append, arith, take, drop, Option, Some, None}
+use Rattle.std.specs.List.{flat_map, AllByRecursion}
+use Rattle.outside.specs.Contents.{Gains}
+use Rattle.outside.proofs.Runs.{gains_none, gains_both}
+use Rattle.module_frames.specs.CommandFrames.{CommandFrame, command_spelling, IsSendable, IsCommandFrame}
+use Rattle.state_model.specs.Kept.{Kept}
+use Rattle.state_model.specs.MachineState.{MachineState}
+use Rattle.state_model.specs.Represents.{Represents}
+use Rattle.state_model.specs.Step.{step}
+use Rattle.module_top.specs.Run.{Ran, run_commands, with_reply, reply_bytes}
+use Rattle.module_top.specs.Desk.{Desk, Went, Broke, Served, CutShort}
+
+pub run_none : (s : MachineState) → run_commands s [] ≡ record { machine = s; out = [] }
+unfolding run_commands
+run_none s = refl
+
+run_one : (s : MachineState) (command : CommandFrame) → run_commands s (command ∷ []) ≡ record { machine = (step s command).machine; out = reply_bytes s command }
+unfolding run_commands
+run_one s command = ap (λ out. record { machine = (step s command).machine; out = out }) (append-nil (reply_bytes s command))
+
+run_both : (s : MachineState) (first more : List CommandFrame)
+    → run_commands s (first ++ more) ≡ (let ran = run_commands s first in with_reply ran.out (run_commands ran.machine more))
+unfolding run_commands
+run_both s [] more = refl
+run_both s (command ∷ first) more =
+    let after = (step s command).machine in
+    rw (run_both after first more)
+    (let ran = run_commands after first in
+    ap (λ out. record { machine = (run_commands ran.machine more).machine; out = out })
+    (sym (append_assoc (reply_bytes s command) ran.out (run_commands ran.machine more).out)))
+
+spelled_both : (first more : List CommandFrame) → flat_map command_spelling (first ++ more) ≡ flat_map command_spelling first ++ flat_map command_spelling more
+spelled_both [] more = refl
+spelled_both (command ∷ first) more =
+    ap (λ xs. command_spelling command ++ xs) (spelled_both first more) ∙ sym (append_assoc (command_spelling command) (flat_map command_spelling first) (flat_map command_spelling more))
+
+sendable_both : (first more : List CommandFrame) → AllByRecursion IsSendable first → AllByRecursion IsSendable more → AllByRecursion IsSendable (first ++ more)
+sendable_both [] more h k = k
+sendable_both (command ∷ first) more h k = (h.0, sendable_both first more h.1 k)
+
+-- nothing was done
+pub went_none : (s : MachineState) (held : List ℕ) → Went s held [] s held []
+went_none s held = record { commands = []; whole = append-nil held; sendable = tt; ran = run_none s }
+
+-- more bytes are held
+pub went_held : (s : MachineState) (held piece rest : List ℕ) → rest ≡ held ++ piece → Went s held piece s rest []
+went_held s held piece rest e = record { commands = []; whole = sym e; sendable = tt; ran = run_none s }
+
+-- the bytes became a command, which was done
+pub went_command : (s : MachineState) (held piece all : List ℕ) (command : CommandFrame) → all ≡ held ++ piece → IsCommandFrame command all
+    → Went s held piece (step s command).machine [] (reply_bytes s command)
+went_command s held piece all command e frame = record {
+  commands = command ∷ [];
+  whole = sym e ∙ frame.spelled ∙ sym (append-nil _ ∙ append-nil _);
+  sendable = (frame.sendable, tt);
+  ran = run_one s command;
+}
+
+-- two pieces are one
+pub went_both : (s t u : MachineState) (held mid rest a b out more : List ℕ) → Went s held a t mid out → Went t mid b u rest more → Went s held (a ++ b) u rest (out ++ more)
+went_both s t u held mid rest a b out more first second = record {
+  commands = first.commands ++ second.commands;
+  whole = sym (append_assoc held a b) ∙ ap (λ xs. xs ++ b) first.whole ∙ append_assoc (flat_map command_spelling first.commands) mid b
+      ∙ ap (λ xs. flat_map command_spelling first.commands ++ xs) second.whole
+      ∙ sym (append_assoc (flat_map command_spelling first.commands) (flat_map command_spelling second.commands) rest)
+      ∙ ap (λ xs. xs ++ rest) (sym (spelled_both first.commands second.commands));
+  sendable = sendable_both first.commands second.commands first.sendable second.sendable;
+  ran = rw (run_both s first.commands second.commands, first.ran, second.ran) refl;
+}
+
+-- the bytes became a command, which was done, and a write failed
+pub broke_command : (s : MachineState) (held piece all more : List ℕ) (command : CommandFrame) (count : ℕ) → all ++ more ≡ held ++ piece → IsCommandFrame command all
+    → count < length (reply_bytes s command) → Broke s held piece (step s command).machine (take count (reply_bytes s command))
+broke_command s held piece all more command count e frame less = record {
+  commands = [];
+  last = command;
+  more = more;
+  whole = sym e ∙ ap (λ xs. xs ++ more) frame.spelled;
+  sendable = tt;
+  last_sendable = frame.sendable;
+  answered = record { machine = s; out = [] };
+  ran = run_none s;
+  stepped = refl;
+  count = count;
+  less = less;
+  gained = refl;
+}
+
+pub went_broke : (s t u : MachineState) (held mid a b out more : List ℕ) → Went s held a t mid out → Broke t mid b u more → Broke s held (a ++ b) u (out ++ more)
+went_broke s t u held mid a b out more first second = record {
+  commands = first.commands ++ second.commands;
+  last = second.last;
+  more = second.more;
+  whole = sym (append_assoc held a b) ∙ ap (λ xs. xs ++ b) first.whole ∙ append_assoc (flat_map command_spelling first.commands) mid b
+      ∙ ap (λ xs. flat_map command_spelling first.commands ++ xs) second.whole
+      ∙ sym (append_assoc (flat_map command_spelling first.commands) (flat_map command_spelling second.commands) (command_spelling second.last ++ second.more))
+      ∙ ap (λ xs. xs ++ (command_spelling second.last ++ second.more)) (sym (spelled_both first.commands second.commands));
+  sendable = sendable_both first.commands second.commands first.sendable second.sendable;
+  last_sendable = second.last_sendable;
+  answered = with_reply out second.answered;
+  ran = rw (run_both s first.commands second.commands, first.ran, second.ran) refl;
+  stepped = second.stepped;
+  count = second.count;
+  less = second.less;
+  gained = ap (λ xs. out ++ xs) second.gained ∙ sym (append_assoc out second.answered.out _);
+}
+
+-- nothing was served
+pub served_none : (desk : Desk) (held : List ℕ) → Served desk held [] held desk
+served_none desk held = record { each = λ s represents. (s, [], represents, gains_none desk.gained, went_none s held) }
+
+-- bytes were held
+pub served_held : (desk : Desk) (held piece rest : List ℕ) → rest ≡ held ++ piece → Served desk held piece rest desk
+served_held desk held piece rest e = record { each = λ s represents. (s, [], represents, gains_none desk.gained, went_held s held piece rest e) }
+
+-- two pieces are one
+pub served_both : {a b c : Desk} {held mid rest p q : List ℕ} → Served a held p mid b → Served b mid q rest c → Served a held (p ++ q) rest c
+served_both {a} {b} {c} {held} {mid} {rest} {p} {q} first second = record {
+  each = λ s represents.
+      let f = first.each s represents in
+      let g = second.each f.0 f.2 in
+      (g.0, f.1 ++ g.1, g.2, gains_both a.gained b.gained c.gained f.1 g.1 f.3 g.3, went_both s f.0 g.0 held mid rest p q f.1 g.1 f.4 g.4);
+}
+
+-- a piece was served, and of the next one a part
+pub cut_both : {a b c : Desk} {held mid p q : List ℕ} → Served a held p mid b → CutShort b mid q c → CutShort a held (p ++ q) c
+cut_both {a} {b} {c} {held} {mid} {p} {q} first second = record {
+  each = λ s represents.
+      let f = first.each s represents in
+      let g = second.each f.0 f.2 in
+      (g.0, f.1 ++ g.1, g.2, gains_both a.gained b.gained c.gained f.1 g.1 f.3 g.3, went_broke s f.0 g.0 held mid p q f.1 g.1 f.4 g.4);
+}

@@ -1,0 +1,4 @@
+pub mod Going
+pub mod Cases
+pub mod Pieces
+pub mod Ending

@@ -1,0 +1,21 @@
+use Rattle.std.proofs.Common.{◌≡◌, ◌+◌, ◌-◌, ◌≤◌, ◌^◌, ℕ, List, [], false, length}
+use Rattle.outside.specs.Contents.{Takes}
+use Rattle.module_frames.specs.Fragments.{IsPartial}
+use Rattle.module_top.specs.Desk.{Served}
+use Rattle.module_top.proofs.serving.serve_stream.Given as goal
+
+abbrev pub invariant-loop-taken : goal.invariant-loop-taken
+invariant-loop-taken g l = record {
+  served : (took : List ℕ) × Takes (g.S.Source.left l.fn.commands) took (g.S.Source.left l.commands) × (length took ≡ l.taken)
+      × Served (record { module' = l.fn.module; gained = g.K.Sink.gained l.fn.replies }) [] took
+      l.frames.bytes (record { module' = l.module; gained = g.K.Sink.gained l.replies });
+  partial : IsPartial l.frames.bytes;
+  sound : l.frames.broken ≡ false;
+  place : l.frames.offset + length l.frames.bytes ≡ l.taken;
+  within : l.taken ≤ 2 ^ 40;
+  reads : g.S.Source.faults l.commands ≡ g.S.Source.faults l.fn.commands;
+  writes : g.K.Sink.faults l.replies ≡ g.K.Sink.faults l.fn.replies;
+}
+
+abbrev pub decreases-loop-taken : goal.decreases-loop-taken
+decreases-loop-taken g l = 2 ^ 40 - l.taken

@@ -1,0 +1,62 @@
+-- Serving a piece of a stream: a relation that composes over pieces.
+use Rattle.std.specs.Prelude.{◌≡◌, ◌<◌, ◌+◌, ◌++◌, ℕ, false, List, length, take, Option}
+use Rattle.std.specs.List.{flat_map, AllByRecursion}
+use Rattle.outside.specs.Contents.{Gains}
+use Rattle.module_frames.specs.CommandFrames.{CommandFrame, command_spelling, IsSendable}
+use Rattle.module_frames.specs.Fragments.{Fragment, IsPartial, IsBroken}
+use Rattle.state_model.specs.Kept.{Kept}
+use Rattle.state_model.specs.MachineState.{MachineState}
+use Rattle.state_model.specs.Represents.{Represents}
+use Rattle.state_model.specs.Step.{step}
+use Rattle.module_top.specs.Run.{Ran, run_commands, reply_bytes}
+
+-- what serving works on: the module, and what the sink gained
+pub record Desk : Type 0 where
+  pub module' : Kept
+  pub gained : Option (List ℕ)
+
+-- From s, with bytes held, a piece leads to t and to other bytes held, and is answered by out.
+pub record Went (s : MachineState) (held piece : List ℕ) (t : MachineState) (rest out : List ℕ) : Type 0 where
+  pub commands : List CommandFrame
+  pub whole : held ++ piece ≡ flat_map command_spelling commands ++ rest
+  pub sendable : AllByRecursion IsSendable commands
+  pub ran : run_commands s commands ≡ record { machine = t; out = out }
+
+-- From s, with bytes held, a piece leads to t, and a write failed in the reply to the last command: the commands before it were
+-- answered, and of its reply there went less than all.
+pub record Broke (s : MachineState) (held piece : List ℕ) (t : MachineState) (out : List ℕ) : Type 0 where
+  pub commands : List CommandFrame
+  pub last : CommandFrame
+  pub more : List ℕ
+  pub whole : held ++ piece ≡ flat_map command_spelling commands ++ (command_spelling last ++ more)
+  pub sendable : AllByRecursion IsSendable commands
+  pub last_sendable : IsSendable last
+  pub answered : Ran
+  pub ran : run_commands s commands ≡ answered
+  pub stepped : t ≡ (step answered.machine last).machine
+  pub count : ℕ
+  pub less : count < length (reply_bytes answered.machine last)
+  pub gained : out ≡ answered.out ++ take count (reply_bytes answered.machine last)
+
+-- with bytes held a piece was served, by the machine's definition, and other bytes are held
+pub record Served (before : Desk) (held piece rest : List ℕ) (after : Desk) : Type 0 where
+  pub each : (s : MachineState) → Represents before.module' s →
+      (t : MachineState) × (out : List ℕ) × Represents after.module' t × Gains before.gained out after.gained × Went s held piece t rest out
+
+-- with bytes held a piece was served up to a failed write
+pub record CutShort (before : Desk) (held piece : List ℕ) (after : Desk) : Type 0 where
+  pub each : (s : MachineState) → Represents before.module' s →
+      (t : MachineState) × (out : List ℕ) × Represents after.module' t × Gains before.gained out after.gained × Broke s held piece t out
+
+-- all of a piece was served, and a frame may go on with the bytes held then
+pub record ServedAll (before : Desk) (old : Fragment) (piece : List ℕ) (new : Fragment) (after : Desk) : Type 0 where
+  pub served : Served before old.bytes piece new.bytes after
+  pub partial : IsPartial new.bytes
+  pub sound : new.broken ≡ false
+  pub place : new.offset + length new.bytes ≡ old.offset + length old.bytes + length piece
+
+-- a piece was served up to a fault, which the rest shows
+pub record ServedToFault (before : Desk) (held piece : List ℕ) (after : Desk) : Type 0 where
+  pub rest : List ℕ
+  pub served : Served before held piece rest after
+  pub fault : IsBroken rest

@@ -1,0 +1,54 @@
+-- What serving a stream leaves, by how it ended.
+use Rattle.std.specs.Prelude.{◌≡◌, ◌≤◌, ◌<◌, ◌^◌, ℕ, List, [], length, Option, None, IfSome}
+use Rattle.outside.specs.Contents.{Takes, Gains}
+use Rattle.module_frames.specs.Streams.{first_fault}
+use Rattle.state_model.specs.Kept.{Kept}
+use Rattle.state_model.specs.MachineState.{MachineState}
+use Rattle.state_model.specs.Represents.{Represents}
+use Rattle.module_top.specs.declared.serving.Ended.{Ended}
+use Rattle.module_top.specs.declared.serving.Ended.TheVariants as ended
+use Rattle.module_top.specs.Run.{Runs, ending_of}
+use Rattle.module_top.specs.Desk.{Broke}
+
+-- the most bytes that one call takes
+abbrev pub stream_max : ℕ
+stream_max = 2 ^ 40
+
+-- the source and the sink, as far as they tell
+pub record Streams : Type 0 where
+  pub left : Option (List ℕ)
+  pub gained : Option (List ℕ)
+
+-- the run over the bytes taken was done and answered
+pub record Answered (s : MachineState) (taken rest : List ℕ) (m : Kept) (before after : Streams) : Type 0 where
+  pub machine : MachineState
+  pub out : List ℕ
+  pub runs : Runs s taken machine out rest
+  pub represents : Represents m machine
+  pub gained : Gains before.gained out after.gained
+
+-- where a content is told, these bytes are all of it
+abbrev pub IsAllOf : List ℕ → Option (List ℕ) → Type 0
+IsAllOf taken content = IfSome content (λ all. all ≡ taken)
+
+-- why it ended so, with this content at the beginning
+abbrev pub EndsBy : Ended → List ℕ → List ℕ → Option (List ℕ) → Type 0
+-- the source ended, at a frame's boundary
+EndsBy ended.End taken rest content = (ending_of rest ≡ ended.End) × (length taken < stream_max) × IsAllOf taken content
+-- the bytes taken show a fault
+EndsBy ended.BadFrame taken rest content = (ending_of rest ≡ ended.BadFrame) × (length taken ≤ stream_max)
+-- the source ended inside a frame
+EndsBy ended.Truncated taken rest content = (ending_of rest ≡ ended.Truncated) × (length taken < stream_max) × IsAllOf taken content
+-- as many bytes were taken as may be, and they show no fault
+EndsBy ended.Limit taken rest content = (length taken ≡ stream_max) × (first_fault rest ≡ None)
+EndsBy ended.ReadFault taken rest content = length taken < stream_max
+EndsBy ended.WriteFault taken rest content = Unit {0}
+
+-- Serving from s: bytes were taken, and the run over them was done and answered. After a write fault it was done and answered up
+-- to a part of the last reply.
+abbrev pub Serves : Ended → MachineState → Kept → Streams → Streams → Type 0
+Serves ended.WriteFault s m before after =
+    (taken : List ℕ) × Takes before.left taken after.left
+    × ((t : MachineState) × (out : List ℕ) × Represents m t × Gains before.gained out after.gained × Broke s [] taken t out)
+Serves how s m before after =
+    (taken : List ℕ) × (rest : List ℕ) × Takes before.left taken after.left × Answered s taken rest m before after × EndsBy how taken rest before.left

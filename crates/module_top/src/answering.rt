@@ -1,0 +1,100 @@
+// Pieces of a stream, and the replies to the commands that they end.
+ghost use Rattle.std.specs.Prelude.{◌≡◌, ◌≢◌, ◌≤◌, ◌<◌, ◌+◌, ◌^◌, ◌++◌, false, ℕ, List, OnOk, OnErr, length, take};
+ghost use Rattle.outside.specs.Contents.{Gains};
+ghost use Rattle.outside.specs.Faults.{Rose};
+ghost use Rattle.module_frames.specs.Fragments.{IsPartial};
+ghost use Rattle.state_model.specs.MachineState.{MachineState};
+ghost use Rattle.state_model.specs.Represents.{Represents};
+ghost use Rattle.state_model.specs.Step.{step};
+ghost use Rattle.module_top.specs.Run.{reply_bytes};
+ghost use Rattle.module_top.specs.Desk.{ServedAll, ServedToFault, CutShort};
+
+use module_frames::{Command, Fed, Frames, Reply};
+use outside::{Failed, Sink};
+use state_model::Module;
+
+/// Writes all of a piece. A fault comes only where the sink's count rose, and a part of the piece is written then.
+pub fn write_all<K: Sink>(sink: &mut K, piece: &[u8]) -> Result<(), Failed>
+    ensures whole { OnOk result (Gains (K.gained sink.old) piece.now (K.gained sink.new)) }
+    ensures part { OnErr result ((k : ℕ) × (k < length piece.now) × Gains (K.gained sink.old) (take k piece.now) (K.gained sink.new)) }
+    ensures rose { OnErr result (Rose (K.faults sink.old) (K.faults sink.new)) }
+    ensures steady { OnOk result (K.faults sink.new ≡ K.faults sink.old) }
+{
+    let mut done = 0;
+    while done < piece.len() {
+        done += sink.write(&piece[done..])?;
+    }
+    Ok(())
+}
+
+/// Does one command, and writes its reply.
+pub fn answer<K: Sink>(
+    module: &mut Module,
+    command: &Command,
+    reply: &mut Reply,
+    replies: &mut K,
+) -> Result<(), Failed>
+    ensures step { (s : MachineState) → Represents module.old s → Represents module.new (step s command.now).machine }
+    ensures whole { OnOk result ((s : MachineState) → Represents module.old s →
+        Gains (K.gained replies.old) (reply_bytes s command.now) (K.gained replies.new)) }
+    ensures part { OnErr result ((s : MachineState) → Represents module.old s → (k : ℕ) × (k < length (reply_bytes s command.now))
+        × Gains (K.gained replies.old) (take k (reply_bytes s command.now)) (K.gained replies.new)) }
+    ensures rose { OnErr result (Rose (K.faults replies.old) (K.faults replies.new)) }
+    ensures steady { OnOk result (K.faults replies.new ≡ K.faults replies.old) }
+{
+    module.command(command, reply);
+    let mut header = [0; 24];
+    reply.header(&mut header);
+    write_all(replies, &header)?;
+    reply.clear();
+    Ok(())
+}
+
+/// What became of a piece.
+#[derive(Clone, Copy, Debug, PartialEq, Eq)]
+pub enum Served {
+    /// All of it was served.
+    All,
+    /// The bytes show a fault; the commands before it were answered.
+    BadFrame,
+    /// A write failed.
+    WriteFault,
+}
+
+/// Serves a piece: does and answers each command that it ends.
+pub fn serve_piece<K: Sink>(
+    module: &mut Module,
+    replies: &mut K,
+    frames: &mut Frames,
+    reply: &mut Reply,
+    piece: &[u8],
+) -> Served
+    requires sound { frames.old.broken ≡ false }
+    requires partial { IsPartial frames.old.bytes }
+    requires short { frames.old.offset + length frames.old.bytes + length piece.now ≤ 2 ^ 63 }
+    ensures all { result ≡ Served.All → ServedAll (record { module' = module.old; gained = K.gained replies.old })
+        frames.old piece.now frames.new (record { module' = module.new; gained = K.gained replies.new }) }
+    ensures fault { result ≡ Served.BadFrame → ServedToFault (record { module' = module.old; gained = K.gained replies.old })
+        frames.old.bytes piece.now (record { module' = module.new; gained = K.gained replies.new }) }
+    ensures write_fault { result ≡ Served.WriteFault → CutShort (record { module' = module.old; gained = K.gained replies.old })
+        frames.old.bytes piece.now (record { module' = module.new; gained = K.gained replies.new }) }
+    ensures rose { result ≡ Served.WriteFault → Rose (K.faults replies.old) (K.faults replies.new) }
+    ensures steady { result ≢ Served.WriteFault → K.faults replies.new ≡ K.faults replies.old }
+{
+    let mut done = 0;
+    while done < piece.len() {
+        match frames.feed(&piece[done..]) {
+            Fed::More => return Served::All,
+            Fed::BadFrame => return Served::BadFrame,
+            Fed::Whole(count) => {
+                match answer(module, frames.command(), reply, replies) {
+                    Err(_) => return Served::WriteFault,
+                    Ok(_) => {}
+                }
+                frames.clear();
+                done += count;
+            }
+        }
+    }
+    Served::All
+}

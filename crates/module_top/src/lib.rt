@@ -1,0 +1,13 @@
+//! From bytes to bytes: a stream of commands is served, and the program runs on its words.
+#![tactic(auto)]
+
+mod answering;
+mod faults;
+mod running;
+mod serving;
+#[cfg(test)]
+mod tests;
+
+pub use faults::RunFault;
+pub use running::run;
+pub use serving::{Ended, serve};

@@ -1,0 +1,133 @@
+// A stream of commands, served to its end.
+ghost use Rattle.std.specs.Prelude.{◌≡◌, ◌≢◌, ◌≤◌, ◌<◌, [], false, IfOk, OnOk, OnErr, length, take, replicate};
+ghost use Rattle.outside.specs.Contents.{Takes, IsSpent};
+ghost use Rattle.outside.specs.Faults.{Rose};
+ghost use Rattle.module_frames.specs.Fragments.{IsPartial, new_fragment};
+ghost use Rattle.module_frames.specs.Replies.{cleared_reply};
+ghost use Rattle.state_model.specs.MachineState.{MachineState};
+ghost use Rattle.state_model.specs.Represents.{Represents};
+ghost use Rattle.module_top.specs.Run.{ending_of};
+ghost use Rattle.module_top.specs.Serving.{Serves};
+
+use crate::answering::{Served, serve_piece};
+use module_frames::{Frames, Reply};
+use outside::{Failed, Sink, Source};
+use state_model::Module;
+
+/// How serving ended.
+#[derive(Clone, Copy, Debug, PartialEq, Eq)]
+pub enum Ended {
+    /// The source ended at a frame's boundary, and each command was answered.
+    End,
+    /// The bytes show a fault. The commands before it were answered.
+    BadFrame,
+    /// The source ended inside a frame. The commands before it were answered.
+    Truncated,
+    /// The source failed. The commands that were whole were answered.
+    ReadFault,
+    /// The sink failed. A part of the replies was written.
+    WriteFault,
+    /// 2^40 bytes were taken. The commands that were whole were answered.
+    Limit,
+}
+
+/// The most bytes that one call takes.
+pub const STREAM_MAX: u64 = 1 << 40;
+
+// Reads into the front of the chunk, at most so many bytes.
+fn read_some<S: Source>(commands: &mut S, chunk: &mut [u8], most: u64) -> Result<usize, Failed>
+    requires chunk { 0 < length chunk.old }
+    requires most { 0 < most }
+    ensures size { IfOk result (λ n. (n ≤ length chunk.new) × (n ≤ most)) }
+    ensures taken { IfOk result (λ n. Takes (S.left commands.old) (take n chunk.new) (S.left commands.new)) }
+    ensures end { IfOk result (λ n. n ≡ 0 → IsSpent (S.left commands.old)) }
+    ensures kept { OnErr result (S.left commands.new ≡ S.left commands.old) }
+    ensures rose { OnErr result (Rose (S.faults commands.old) (S.faults commands.new)) }
+    ensures steady { OnOk result (S.faults commands.new ≡ S.faults commands.old) }
+{
+    let room = (chunk.len() as u64).min(most) as usize;
+    commands.read(&mut chunk[..room])
+}
+
+// Serves a stream, and leaves what it worked with as it is then.
+fn serve_stream<S: Source, K: Sink>(
+    module: &mut Module,
+    commands: &mut S,
+    replies: &mut K,
+    frames: &mut Frames,
+    reply: &mut Reply,
+    chunk: &mut [u8],
+) -> Ended
+    requires new { frames.old ≡ new_fragment }
+    requires chunk { 0 < length chunk.old }
+    ensures served { (s : MachineState) → Represents module.old s → Serves result s module.new
+        (record { left = S.left commands.old; gained = K.gained replies.old })
+        (record { left = S.left commands.new; gained = K.gained replies.new }) }
+    ensures read_fault { result ≡ Ended.ReadFault → Rose (S.faults commands.old) (S.faults commands.new) }
+    ensures reads_steady { result ≢ Ended.ReadFault → S.faults commands.new ≡ S.faults commands.old }
+    ensures write_fault { result ≡ Ended.WriteFault → Rose (K.faults replies.old) (K.faults replies.new) }
+    ensures writes_steady { result ≢ Ended.WriteFault → K.faults replies.new ≡ K.faults replies.old }
+{
+    let mut taken: u64 = 0;
+    while taken < STREAM_MAX {
+        match read_some(commands, chunk, STREAM_MAX - taken) {
+            Err(_) => return Ended::ReadFault,
+            Ok(0) => return end_of(frames),
+            Ok(count) => {
+                match serve_piece(module, replies, frames, reply, &chunk[..count]) {
+                    Served::All => {}
+                    Served::BadFrame => return Ended::BadFrame,
+                    Served::WriteFault => return Ended::WriteFault,
+                }
+                taken += count as u64;
+            }
+        }
+    }
+    Ended::Limit
+}
+
+// How a stream without a fault ends, with these bytes held.
+fn end_of(frames: &Frames) -> Ended
+    requires sound { frames.now.broken ≡ false }
+    requires partial { IsPartial frames.now.bytes }
+    ensures { result ≡ ending_of frames.now.bytes }
+{
+    if frames.at_boundary() {
+        Ended::End
+    } else {
+        Ended::Truncated
+    }
+}
+
+/// Serves a stream of commands to its end: reads into the chunk, does each whole command in turn, writes its reply, and clears
+/// both. `frames` is new and the chunk isn't empty. As it returns, frames, reply and chunk are zero.
+///
+/// No more than 2^40 bytes are asked for. Where a call on the source or the sink failed, the answer is that object's.
+pub fn serve<S: Source, K: Sink>(
+    module: &mut Module,
+    commands: &mut S,
+    replies: &mut K,
+    frames: &mut Frames,
+    reply: &mut Reply,
+    chunk: &mut [u8],
+) -> Ended
+    requires new { frames.old ≡ new_fragment }
+    requires chunk { 0 < length chunk.old }
+    ensures served { (s : MachineState) → Represents module.old s → Serves result s module.new
+        (record { left = S.left commands.old; gained = K.gained replies.old })
+        (record { left = S.left commands.new; gained = K.gained replies.new }) }
+
+    // Each fault comes only where that object's count rose.
+    ensures read_fault { result ≡ Ended.ReadFault → Rose (S.faults commands.old) (S.faults commands.new) }
+    ensures reads_steady { result ≢ Ended.ReadFault → S.faults commands.new ≡ S.faults commands.old }
+    ensures write_fault { result ≡ Ended.WriteFault → Rose (K.faults replies.old) (K.faults replies.new) }
+    ensures writes_steady { result ≢ Ended.WriteFault → K.faults replies.new ≡ K.faults replies.old }
+
+    ensures zero { (frames.new.bytes ≡ []) × (reply.new ≡ cleared_reply) × (chunk.new ≡ replicate (length chunk.old) 0) }
+{
+    let ended = serve_stream(module, commands, replies, frames, reply, chunk);
+    frames.clear();
+    reply.clear();
+    chunk.fill(0);
+    ended
+}

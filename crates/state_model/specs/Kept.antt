@@ -1,0 +1,7 @@
+-- What the fields of a module show.
+use Rattle.std.specs.Prelude.{ℕ}
+use Rattle.module_frames.specs.declared.state.State.{State}
+
+pub record Kept : Type 0 where
+  pub state : State
+  pub period : ℕ

@@ -1,0 +1,5 @@
+pub mod MachineState
+pub mod Step
+pub mod Kept
+pub mod Held
+pub mod Represents

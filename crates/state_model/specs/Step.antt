@@ -1,0 +1,72 @@
+-- One step of the machine.
+use Rattle.std.specs.Prelude.{ℕ, false, List, [], Option, None, Some, if◌then◌else◌}
+use Rattle.module_frames.specs.declared.service.Service.{Service}
+use Rattle.module_frames.specs.declared.state.State.TheVariants as state
+use Rattle.module_frames.specs.declared.status.Status.{Status}
+use Rattle.module_frames.specs.declared.status.Status.TheVariants as status
+use Rattle.module_frames.specs.declared.request.Request.{Request}
+use Rattle.module_frames.specs.declared.request.Request.TheVariants as request
+use Rattle.module_frames.specs.Services.{service_numbered, is_permitted}
+use Rattle.module_frames.specs.Requests.{request_of}
+use Rattle.module_frames.specs.CommandFrames.{CommandFrame}
+use Rattle.module_frames.specs.ReplyFrames.{ReplyFrame}
+use Rattle.module_frames.specs.PublicState.{status_block, no_block}
+use Rattle.state_model.specs.MachineState.{MachineState, IsWellFormed, public_of}
+
+-- what a step leaves, and what it answers
+pub record Stepped : Type 0 where
+  pub machine : MachineState
+  pub status : Status
+  pub block : List ℕ
+
+-- a refusal changes nothing and tells nothing but its reason
+abbrev pub refused : MachineState → Status → Stepped
+refused s why = record { machine = s; status = why; block = no_block }
+
+-- a service was done
+abbrev pub done : MachineState → List ℕ → Stepped
+done after block = record { machine = after; status = status.Ok; block = block }
+
+-- PowerOn: Off to Init, and sets the period
+abbrev pub power_on : MachineState → ℕ → MachineState
+power_on s period = record s { state = state.Init; period = period }
+
+-- Reset: to Init; the period stays
+abbrev pub reset : MachineState → MachineState
+reset s = record s { state = state.Init }
+
+-- what is done for a request; ShowStatus tells the public state
+abbrev pub done_for : MachineState → Request → Stepped
+done_for s (request.PowerOn period) = done (power_on s period) no_block
+done_for s request.ShowStatus = done s (status_block (public_of s))
+done_for s request.Reset = done (reset s) no_block
+
+-- The one order: a number that is no service's, a service that isn't permitted in this state, a body that isn't of its
+-- form. The first of these that holds is the reason of refusal.
+abbrev pub asked : MachineState → Option Request → Stepped
+asked s None = refused s status.BadBody
+asked s (Some what) = done_for s what
+
+abbrev pub ordered : MachineState → Option Service → List ℕ → Stepped
+ordered s None body = refused s status.UnknownService
+ordered s (Some service) body =
+    if is_permitted service s.state then asked s (request_of service body) else refused s status.NotInState
+
+unfoldable pub step : MachineState → CommandFrame → Stepped
+step s command = ordered s (service_numbered command.service) command.body
+
+-- the reply to a command, after its step
+abbrev pub reply_to : CommandFrame → Stepped → ReplyFrame
+reply_to command after = record {
+  service = command.service;
+  status = after.status;
+  state = after.machine.state;
+  approved = false;
+  code = 0;
+  block = after.block;
+  payload = [];
+}
+
+-- a step keeps the rules
+abbrev pub StepsKeepTheRules : Type 0
+StepsKeepTheRules = (s : MachineState) (command : CommandFrame) → IsWellFormed s → IsWellFormed (step s command).machine
