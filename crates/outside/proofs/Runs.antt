@@ -1,4 +1,4 @@
-use Rattle.std.proofs.Common.{◌≡◌, ◌≤◌, ◌++◌, ℕ, List, [], Option, Some, None, append_assoc, append-nil, sym, refl, ◌∙◌, ap, arith}
+use Rattle.std.proofs.Common.{◌≤◌, ◌++◌, ℕ, List, [], Option, Some, None, append_assoc, append-nil, sym, refl, ◌∙◌, ap, arith}
 use Rattle.outside.specs.Contents.{Gains, Takes}
 use Rattle.outside.specs.Faults.{Rose}
 

@@ -1,5 +1,7 @@
 // Bytes that go to a writer of the standard library.
-ghost use Rattle.std.specs.Prelude.{◌≡◌, ◌≤◌, ℕ, IfSome, length};
+ghost use Rattle.std.specs.Prelude.{◌≡◌, ◌≤◌, ◌<◌, ℕ, None, IfOk, IfSome, OnOk, OnErr, IfNone, MatchOption, take, length};
+ghost use Rattle.std.specs.Io.KnownBytes.{Appends, Keeps};
+ghost use Rattle.outside.specs.Faults.{Rose};
 
 use crate::{Failed, Sink};
 use std::io::{ErrorKind, Write};
@@ -14,38 +16,34 @@ const TRIES: u32 = 1_000;
 #[derive(Drop)]
 pub struct StdSink<W> {
     writer: W,
-    raised: u64,
+    faults: u64,
 }
 
 impl<W> Model for StdSink<W> {
-    ghost use Rattle.std.specs.Prelude.{ℕ};
+    ghost use Rattle.outside.specs.Adapters.{Adapter};
 
-    ghost Value = { ℕ };
+    ghost Value = { Adapter W };
 
-    ghost view = { λ a. a.raised };
+    ghost view = { λ a. record { inner = a.writer; faults = a.faults } };
 }
 
 impl<W> StdSink<W> {
     /// A sink over this writer, with no fault so far.
     pub fn new(writer: W) -> Self
-        ensures { result ≡ 0 }
+        ensures { result ≡ record { inner = writer; faults = 0 } }
     {
-        StdSink { writer, raised: 0 }
+        StdSink { writer, faults: 0 }
     }
 }
 
-// One write with its flush. None where the writer failed.
-fn deliver<W: Write>(writer: &mut W, piece: &[u8]) -> Option<usize>
-    ensures { IfSome result (λ n. n ≤ length piece.now) }
+// One write. None where the writer failed.
+fn write_once<W: Write>(writer: &mut W, piece: &[u8]) -> Option<usize>
+    ensures { MatchOption result (Keeps (W.contents writer.old) (W.contents writer.new)) (λ n.
+        (n ≤ length piece.now) × Appends (W.contents writer.old) (W.contents writer.new) (take n piece.now)) }
 {
     for _ in 0..TRIES {
         match writer.write(piece) {
-            Ok(count) => {
-                return match writer.flush() {
-                    Ok(()) => Some(count),
-                    Err(_) => None,
-                };
-            }
+            Ok(count) => return Some(count),
             Err(error) => {
                 if error.kind() != ErrorKind::Interrupted {
                     return None;
@@ -56,18 +54,44 @@ fn deliver<W: Write>(writer: &mut W, piece: &[u8]) -> Option<usize>
     None
 }
 
-impl<W: Write> Sink for StdSink<W> {
-    ghost use Rattle.std.specs.Prelude.{None};
+// One write with its flush. None where the writer failed; it may then have taken some of the piece.
+fn deliver<W: Write>(writer: &mut W, piece: &[u8]) -> Option<usize>
+    ensures some { IfSome result (λ n. (n ≤ length piece.now)
+        × Appends (W.contents writer.old) (W.contents writer.new) (take n piece.now)) }
+    ensures none { IfNone result ((k : ℕ) × (k ≤ length piece.now)
+        × Appends (W.contents writer.old) (W.contents writer.new) (take k piece.now)) }
+{
+    match write_once(writer, piece) {
+        None => None,
+        Some(count) => match writer.flush() {
+            Ok(()) => Some(count),
+            Err(_) => None,
+        },
+    }
+}
 
+impl<W: Write> Sink for StdSink<W> {
     ghost gained = { λ _. None };
 
-    ghost faults = { λ sink. sink };
+    ghost faults = { λ sink. sink.faults };
 
-    fn write(&mut self, piece: &[u8]) -> Result<usize, Failed> {
+    /// Where the writer tells its bytes, it gained these, and at a fault some first bytes of the piece.
+    fn write(&mut self, piece: &[u8]) -> Result<usize, Failed>
+        ensures size { IfOk result (λ n. n ≤ length piece.now) }
+        ensures some { IfOk result (λ n. 0 < length piece.now → 0 < n) }
+        ensures rose { OnErr result (Rose self.old.faults self.new.faults) }
+        ensures steady { OnOk result (self.new.faults ≡ self.old.faults) }
+        ensures never_falls { self.old.faults ≤ self.new.faults }
+
+        ensures delivered { IfOk result (λ n.
+            Appends (W.contents self.old.inner) (W.contents self.new.inner) (take n piece.now)) }
+        ensures broken { OnErr result ((k : ℕ) × (k ≤ length piece.now)
+            × Appends (W.contents self.old.inner) (W.contents self.new.inner) (take k piece.now)) }
+    {
         match deliver(&mut self.writer, piece) {
             Some(count) if count > 0 || piece.is_empty() => Ok(count),
             _ => {
-                self.raised = self.raised.saturating_add(1);
+                self.faults = self.faults.saturating_add(1);
                 Err(Failed)
             }
         }

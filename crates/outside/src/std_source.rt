@@ -1,5 +1,7 @@
 // Bytes that come from a reader of the standard library.
-ghost use Rattle.std.specs.Prelude.{◌≡◌, ◌≤◌, ℕ, IfSome, length};
+ghost use Rattle.std.specs.Prelude.{◌≡◌, ◌≤◌, ◌<◌, ℕ, None, IfOk, OnOk, OnErr, MatchOption, take, length};
+ghost use Rattle.std.specs.Io.KnownBytes.{Consumes, IsAtEnd, Keeps, ReadConsumes};
+ghost use Rattle.outside.specs.Faults.{Rose};
 
 use crate::{Failed, Source};
 use std::io::{ErrorKind, Read};
@@ -14,29 +16,31 @@ const TRIES: u32 = 1_000;
 #[derive(Drop)]
 pub struct StdSource<R> {
     reader: R,
-    raised: u64,
+    faults: u64,
 }
 
 impl<R> Model for StdSource<R> {
-    ghost use Rattle.std.specs.Prelude.{ℕ};
+    ghost use Rattle.outside.specs.Adapters.{Adapter};
 
-    ghost Value = { ℕ };
+    ghost Value = { Adapter R };
 
-    ghost view = { λ a. a.raised };
+    ghost view = { λ a. record { inner = a.reader; faults = a.faults } };
 }
 
 impl<R> StdSource<R> {
     /// A source over this reader, with no fault so far.
     pub fn new(reader: R) -> Self
-        ensures { result ≡ 0 }
+        ensures { result ≡ record { inner = reader; faults = 0 } }
     {
-        StdSource { reader, raised: 0 }
+        StdSource { reader, faults: 0 }
     }
 }
 
 // One read. None where the reader failed.
-fn take<R: Read>(reader: &mut R, into: &mut [u8]) -> Option<usize>
-    ensures { IfSome result (λ n. n ≤ length into.old) }
+fn read_once<R: Read>(reader: &mut R, into: &mut [u8]) -> Option<usize>
+    ensures { MatchOption result (Keeps (R.remaining reader.old) (R.remaining reader.new)) (λ n. (n ≤ length into.old)
+        × Consumes (R.remaining reader.old) (R.remaining reader.new) (take n into.new)
+        × (n ≡ 0 → 0 < length into.old → IsAtEnd (R.remaining reader.new))) }
 {
     for _ in 0..TRIES {
         match reader.read(into) {
@@ -52,17 +56,23 @@ fn take<R: Read>(reader: &mut R, into: &mut [u8]) -> Option<usize>
 }
 
 impl<R: Read> Source for StdSource<R> {
-    ghost use Rattle.std.specs.Prelude.{None};
-
     ghost left = { λ _. None };
 
-    ghost faults = { λ source. source };
+    ghost faults = { λ source. source.faults };
 
-    fn read(&mut self, into: &mut [u8]) -> Result<usize, Failed> {
-        match take(&mut self.reader, into) {
+    /// Where the reader tells its bytes, these come from their front, and a fault takes none of them.
+    fn read(&mut self, into: &mut [u8]) -> Result<usize, Failed>
+        ensures size { IfOk result (λ n. n ≤ length into.old) }
+        ensures rose { OnErr result (Rose self.old.faults self.new.faults) }
+        ensures steady { OnOk result (self.new.faults ≡ self.old.faults) }
+        ensures never_falls { self.old.faults ≤ self.new.faults }
+
+        ensures handed { ReadConsumes (R.remaining self.old.inner) (R.remaining self.new.inner) result into.new }
+    {
+        match read_once(&mut self.reader, into) {
             Some(count) => Ok(count),
             None => {
-                self.raised = self.raised.saturating_add(1);
+                self.faults = self.faults.saturating_add(1);
                 Err(Failed)
             }
         }
