@@ -2,3 +2,5 @@ pub mod Going
 pub mod Cases
 pub mod Pieces
 pub mod Ending
+pub mod Words
+pub mod Outputs

@@ -1,5 +1,5 @@
 // The program, from its words and its input to its exit status and its output.
-ghost use Rattle.std.specs.Prelude.{◌≡◌, ◌≢◌, ◌↔◌, ◌⊎◌, ◌++◌, ℕ, List, Some, IsTrue, IfOk, OnOk, OnErr, map};
+ghost use Rattle.std.specs.Prelude.{◌≡◌, ◌≢◌, ◌↔◌, ◌⊎◌, ◌++◌, ℕ, List, Some, IsTrue, IfOk, OnOk, OnErr, map, codes};
 ghost use Rattle.std.specs.String.{string_bytes};
 ghost use Rattle.outside.specs.Faults.{Rose};
 ghost use Rattle.state_model.specs.Kept.{Kept};
@@ -16,12 +16,18 @@ use std::alloc::{AllocError, Global};
 // How many bytes the program asks its input for at once.
 const CHUNK: usize = 65_536;
 
+fn is_word_serve(word: &str) -> bool
+    ensures { IsTrue result ↔ (word.now ≡ codes "serve") }
+{
+    word == "serve"
+}
+
 // Whether the words ask to serve.
 fn is_serve(words: &[String]) -> bool
     ensures { IsTrue result ↔ (map string_bytes words.now ≡ serve_words) }
 {
     match words {
-        [word] => word.as_str() == "serve",
+        [word] => is_word_serve(word.as_str()),
         _ => false,
     }
 }
