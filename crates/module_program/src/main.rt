@@ -8,6 +8,7 @@ use std::io;
 use std::process::ExitCode;
 
 const USAGE: u8 = 2;
+
 const OUT_OF_MEMORY: u8 = 7;
 
 // The words after the program's name.

@@ -1,9 +1,8 @@
 -- How serving a stream ends.
-use Rattle.std.proofs.Common.{◌≡◌, ◌++◌, ◌<◌, ◌≤◌, ◌+◌, ℕ, List, [], ◌∷◌, append_assoc, append-nil, sym, refl, ◌∙◌, ap, subst, length, length-append, arith, take, Option, Some, None}
+use Rattle.std.proofs.Common.{◌≡◌, ◌++◌, ◌<◌, ℕ, List, [], ◌∷◌, append-nil, sym, refl, ◌∙◌, ap, subst, length, Option, Some, None}
 use Rattle.std.specs.Prelude.{IsSome}
 use Rattle.outside.specs.Contents.{Takes, IsSpent}
 use Rattle.module_frames.specs.Streams.{BeginsNoCommand, first_fault, body_length}
-use Rattle.module_frames.specs.Fragments.{IsPartial, IsBroken}
 use Rattle.state_model.specs.Kept.{Kept}
 use Rattle.state_model.specs.MachineState.{MachineState}
 use Rattle.state_model.specs.Represents.{Represents}

@@ -1,14 +1,11 @@
 -- A run goes on, over commands and over pieces.
-use Rattle.std.proofs.Common.{◌≡◌, ◌++◌, ◌<◌, ◌≤◌, ℕ, true, false, List, [], ◌∷◌, append_assoc, append-nil, sym, refl, ◌∙◌, ap, subst, length, length-append, arith, take, drop, Option, Some, None}
+use Rattle.std.proofs.Common.{◌≡◌, ◌++◌, ◌<◌, ℕ, List, [], ◌∷◌, append_assoc, append-nil, sym, refl, ◌∙◌, ap, length, take}
 use Rattle.std.specs.List.{flat_map, AllByRecursion}
-use Rattle.outside.specs.Contents.{Gains}
 use Rattle.outside.proofs.Runs.{gains_none, gains_both}
 use Rattle.module_frames.specs.CommandFrames.{CommandFrame, command_spelling, IsSendable, IsCommandFrame}
-use Rattle.state_model.specs.Kept.{Kept}
 use Rattle.state_model.specs.MachineState.{MachineState}
-use Rattle.state_model.specs.Represents.{Represents}
 use Rattle.state_model.specs.Step.{step}
-use Rattle.module_top.specs.Run.{Ran, run_commands, with_reply, reply_bytes}
+use Rattle.module_top.specs.Run.{run_commands, with_reply, reply_bytes}
 use Rattle.module_top.specs.Desk.{Desk, Went, Broke, Served, CutShort}
 
 pub run_none : (s : MachineState) → run_commands s [] ≡ record { machine = s; out = [] }

@@ -1,10 +1,9 @@
 -- From what serving leaves to the program's output.
-use Rattle.std.proofs.Common.{◌≡◌, ◌≢◌, ◌++◌, ◌<◌, ◌≤◌, ◌+◌, ◌-◌, ℕ, Bool, true, false, List, [], ◌∷◌, sym, refl, ◌∙◌, ap, subst, length, length-append, arith, take, drop, Option, Some, None, if◌then◌else◌}
+use Rattle.std.proofs.Common.{◌≡◌, ◌≢◌, ◌++◌, ◌<◌, ◌≤◌, ◌+◌, ◌-◌, ℕ, Bool, true, false, List, [], ◌∷◌, sym, refl, ◌∙◌, ap, subst, length, length-append, arith, take, drop, Some, if◌then◌else◌}
 use Rattle.std.specs.Prelude.{IsSome, is_some}
-use Rattle.std.specs.List.{flat_map}
 use Rattle.std.proofs.lemmas.List.{append_assoc, take_at, drop_at}
 use Rattle.std.proofs.Math.Seq.{take-add}
-use Rattle.module_frames.specs.Streams.{first_fault, Splits}
+use Rattle.module_frames.specs.Streams.{first_fault}
 use Rattle.module_frames.proofs.Headers.{fault_stays}
 use Rattle.module_frames.proofs.Spellings.{broken_begins_none}
 use Rattle.state_model.specs.Kept.{Kept}

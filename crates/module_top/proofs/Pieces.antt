@@ -1,18 +1,17 @@
 -- What a piece does, by what the reader of frames answers to it.
-use Rattle.std.proofs.Common.{◌≡◌, ◌++◌, ◌<◌, ◌≤◌, ◌+◌, ℕ, zero, suc, false, List, [], append_assoc, append-nil, sym, refl, ◌∙◌, ap, subst, length, length-append, arith, take, drop, Option}
-use Rattle.std.proofs.lemmas.List.{take-append-drop, length-drop, length-take-le}
+use Rattle.std.proofs.Common.{◌≡◌, ◌++◌, ◌<◌, ◌≤◌, ◌+◌, ℕ, false, List, [], append_assoc, refl, ◌∙◌, ap, subst, length, length-append, arith, take, drop}
+use Rattle.std.proofs.lemmas.List.{take-append-drop, length-drop}
 use Rattle.std.proofs.Math.Seq.{take-add}
 use Rattle.outside.specs.Contents.{Gains}
 use Rattle.module_frames.specs.declared.frames.Fed.TheVariants as fed
-use Rattle.module_frames.specs.CommandFrames.{CommandFrame, command_spelling, IsCommandFrame}
-use Rattle.module_frames.specs.Fragments.{Fragment, Takes, IsPartial, Stands}
-use Rattle.state_model.specs.Kept.{Kept}
+use Rattle.module_frames.specs.CommandFrames.{CommandFrame, IsCommandFrame}
+use Rattle.module_frames.specs.Fragments.{Fragment, Takes, IsPartial}
 use Rattle.state_model.specs.MachineState.{MachineState}
 use Rattle.state_model.specs.Represents.{Represents}
 use Rattle.state_model.specs.Step.{step}
 use Rattle.module_top.specs.Run.{reply_bytes}
 use Rattle.module_top.specs.Desk.{Desk, Served, ServedAll, ServedToFault, CutShort}
-use Rattle.module_top.proofs.Going.{served_none, served_held, served_both, cut_both, went_command, broke_command}
+use Rattle.module_top.proofs.Going.{served_held, served_both, cut_both, went_command, broke_command}
 
 -- a part of a piece was served, and these bytes are held
 pub record Underway (start : Desk) (old : Fragment) (piece : List ℕ) (done : ℕ) (mid : Fragment) (desk : Desk) : Type 0 where

@@ -51,7 +51,14 @@ fn open_and_serve<S: Source, K: Sink>(
     let mut frames = Frames::new(alloc)?;
     let mut reply = Reply::new(alloc)?;
     let mut chunk = vec![in alloc; 0; CHUNK]?;
-    Ok(serve(&mut module, commands, replies, &mut frames, &mut reply, &mut chunk))
+    Ok(serve(
+        &mut module,
+        commands,
+        replies,
+        &mut frames,
+        &mut reply,
+        &mut chunk,
+    ))
 }
 
 fn exit_status(ended: Ended) -> u8

@@ -1,4 +1,6 @@
 // Whole runs of the program: worked dialogues, streams that are cut or broken, and calls that fail.
+ghost use Rattle.std.specs.Prelude.{◌≤◌};
+
 use crate::{RunFault, run};
 use outside::{MemSink, MemSource};
 use std::alloc::Global;
@@ -10,6 +12,7 @@ const STREAM: [u8; 28] = [
     0xc5, 0x01, 0x04, 0x00, 0x00, 0x00, 0x00, 0x00, //
     0xc5, 0x01, 0x07, 0x00, 0x00, 0x00, 0x00, 0x00,
 ];
+
 const REPLIES: [u8; 72] = [
     0x5c, 0x01, 0x01, 0x00, 0x01, 0, 0, 0, 0, 0, 0, 0, 0, 0, 0, 0, 0, 0, 0, 0, 0, 0, 0, 0, //
     0x5c, 0x01, 0x04, 0x00, 0x01, 0, 0, 0, 0, 0, 0, 0, 0, 0, 0, 3, 0, 0, 0, 0, 0, 0, 0, 0, //
@@ -36,7 +39,12 @@ fn outcome(alloc: Global, words: &[&str], bytes: &[u8], step: usize) -> Result<(
 }
 
 // Serves the worked stream, eight bytes at a time, where these reads and writes fail.
-fn with_faults(alloc: Global, reads: &[u64], writes: &[u64], room: usize) -> Result<(u8, MemSink), Fail> {
+fn with_faults(
+    alloc: Global,
+    reads: &[u64],
+    writes: &[u64],
+    room: usize,
+) -> Result<(u8, MemSink), Fail> {
     let words = words_of(alloc, &["serve"])?;
     let mut commands = MemSource::new(STREAM.to_vec(alloc)?, 8, reads.to_vec(alloc)?);
     let mut replies = MemSink::new(alloc, room, 24, writes.to_vec(alloc)?)?;
@@ -56,10 +64,18 @@ fn replies_to(count: usize) -> &'static [u8] {
 
 #[test]
 fn answers_the_worked_streams(rt: HostRuntime) -> Result<(), Fail> {
-    let off = [0x5c, 0x01, 0x04, 0, 0, 0, 0, 0, 0, 0, 0, 0, 0, 0, 0, 0, 0, 0, 0, 0, 0, 0, 0, 0];
-    let no_service = [0x5c, 0x01, 0x02, 1, 0, 0, 0, 0, 0, 0, 0, 0, 0, 0, 0, 0, 0, 0, 0, 0, 0, 0, 0, 0];
-    let echoed = [0x5c, 0x01, 0x7e, 1, 0, 0, 0, 0, 0, 0, 0, 0, 0, 0, 0, 0, 0, 0, 0, 0, 0, 0, 0, 0];
-    let not_now = [0x5c, 0x01, 0x07, 2, 0, 0, 0, 0, 0, 0, 0, 0, 0, 0, 0, 0, 0, 0, 0, 0, 0, 0, 0, 0];
+    let off = [
+        0x5c, 0x01, 0x04, 0, 0, 0, 0, 0, 0, 0, 0, 0, 0, 0, 0, 0, 0, 0, 0, 0, 0, 0, 0, 0,
+    ];
+    let no_service = [
+        0x5c, 0x01, 0x02, 1, 0, 0, 0, 0, 0, 0, 0, 0, 0, 0, 0, 0, 0, 0, 0, 0, 0, 0, 0, 0,
+    ];
+    let echoed = [
+        0x5c, 0x01, 0x7e, 1, 0, 0, 0, 0, 0, 0, 0, 0, 0, 0, 0, 0, 0, 0, 0, 0, 0, 0, 0, 0,
+    ];
+    let not_now = [
+        0x5c, 0x01, 0x07, 2, 0, 0, 0, 0, 0, 0, 0, 0, 0, 0, 0, 0, 0, 0, 0, 0, 0, 0, 0, 0,
+    ];
     let rows: [(&[u8], &[u8], u8); 10] = [
         (&STREAM, &REPLIES, 0),
         (&[0xc5, 0x01, 0x04, 0, 0, 0, 0, 0], &off, 0),
@@ -79,5 +95,130 @@ fn answers_the_worked_streams(rt: HostRuntime) -> Result<(), Fail> {
             assert_eq!(rt; replies.bytes(), want);
         }
     }
+    Ok(())
+}
+
+#[test]
+fn knows_a_frame_of_the_longest_body(rt: HostRuntime) -> Result<(), Fail> {
+    let mut bytes = vec![in rt.alloc(); 0; 65_608]?;
+    bytes[0] = 0xc5;
+    bytes[1] = 0x01;
+    bytes[2] = 0x04;
+    bytes[5] = 0x01;
+    bytes[7] = 0x40;
+    let (status, replies) = outcome(rt.alloc(), &["serve"], &bytes, 1_000)?;
+    assert_eq!(rt; status, 0);
+    assert_eq!(rt;
+        replies.bytes(),
+        [
+            0x5c, 0x01, 0x04, 3, 0, 0, 0, 0, 0, 0, 0, 0, 0, 0, 0, 0, 0, 0, 0, 0, 0, 0, 0, 0
+        ]
+        .as_slice()
+    );
+    Ok(())
+}
+
+#[test]
+fn powers_on_once(rt: HostRuntime) -> Result<(), Fail> {
+    let mut bytes = STREAM[..12].to_vec(rt.alloc())?;
+    bytes.extend_from_slice(&STREAM[..12])?;
+    let (status, replies) = outcome(rt.alloc(), &["serve"], &bytes, 5)?;
+    assert_eq!(rt; status, 0);
+    assert_eq!(rt; replies.bytes().len(), 48);
+    assert_eq!(rt;
+        &replies.bytes()[24..29],
+        [0x5c, 0x01, 0x01, 2, 1].as_slice()
+    );
+    Ok(())
+}
+
+#[test]
+fn answers_the_whole_commands_of_a_cut_stream(rt: HostRuntime) -> Result<(), Fail> {
+    for length in 0..29 {
+        let (status, replies) = outcome(rt.alloc(), &["serve"], &STREAM[..length], 7)?;
+        let whole = length == 0 || length == 12 || length == 20 || length == 28;
+        let count = usize::from(length >= 12)
+            + usize::from(length >= 20)
+            + usize::from(length >= 28);
+        assert_eq!(rt; status, if whole { 0 } else { 4 });
+        assert_eq!(rt; replies.bytes(), replies_to(count));
+    }
+    Ok(())
+}
+
+#[test]
+fn refuses_each_other_byte_of_a_header(rt: HostRuntime) -> Result<(), Fail> {
+    for (place, right) in [(0, 0xc5), (1, 0x01), (3, 0x00)] {
+        for byte in 0..=u8::MAX {
+            let mut stream = STREAM;
+            stream[place] = byte;
+            let (status, replies) = outcome(rt.alloc(), &["serve"], &stream, 28)?;
+            assert_eq!(rt; status, if byte == right { 0 } else { 3 });
+            assert_eq!(rt;
+                replies.bytes(),
+                replies_to(if byte == right { 3 } else { 0 })
+            );
+        }
+    }
+    Ok(())
+}
+
+#[test]
+fn ends_at_a_failed_read(rt: HostRuntime) -> Result<(), Fail> {
+    for (call, count) in [(1, 0), (2, 0), (3, 1), (4, 2), (5, 3)] {
+        let (status, replies) = with_faults(rt.alloc(), &[call], &[], 100)?;
+        assert_eq!(rt; status, 5);
+        assert_eq!(rt; replies.bytes(), replies_to(count));
+    }
+    Ok(())
+}
+
+#[test]
+fn ends_at_a_failed_write(rt: HostRuntime) -> Result<(), Fail> {
+    for (call, count) in [(1, 0), (2, 1), (3, 2)] {
+        let (status, replies) = with_faults(rt.alloc(), &[], &[call], 100)?;
+        assert_eq!(rt; status, 6);
+        assert_eq!(rt; replies.bytes(), replies_to(count));
+    }
+    let (status, replies) = with_faults(rt.alloc(), &[], &[], 0)?;
+    assert_eq!(rt; status, 6);
+    assert_eq!(rt; replies.bytes(), [].as_slice());
+    Ok(())
+}
+
+#[test]
+fn knows_no_other_words(rt: HostRuntime) -> Result<(), Fail> {
+    let rows: [&[&str]; 5] = [
+        &[],
+        &["Serve"],
+        &["serve", "serve"],
+        &["operate"],
+        &["--help"],
+    ];
+    for words in rows {
+        let (status, replies) = outcome(rt.alloc(), words, &STREAM, 28)?;
+        assert_eq!(rt; status, 2);
+        assert_eq!(rt; replies.bytes(), [].as_slice());
+    }
+    Ok(())
+}
+
+#[test]
+fn tells_each_fault(rt: HostRuntime) -> Result<(), Fail> {
+    let rows = [
+        (2, "usage: serve"),
+        (3, "bad frame"),
+        (4, "truncated frame"),
+        (5, "read failed"),
+        (6, "write failed"),
+        (7, "out of memory"),
+        (12, "stream too long"),
+    ];
+    for (status, text) in rows {
+        let fault = RunFault::of(status).ok_or("a fault")?;
+        assert_eq!(rt; format!(in rt.alloc(); "{fault}")?.as_str(), text);
+    }
+    assert!(rt; RunFault::of(0).is_none());
+    assert!(rt; RunFault::of(13).is_none());
     Ok(())
 }

@@ -1,7 +1,6 @@
-use Rattle.std.proofs.Common.{◌≡◌, ◌≤◌, ◌<◌, ◌+◌, ◌-◌, ◌++◌, ℕ, false, List, [], length, take, drop, refl, sym, ◌∙◌, ap, arith, length-append}
-use Rattle.std.proofs.lemmas.List.{take_rest, take_all, length-take-le, length-drop}
+use Rattle.std.proofs.Common.{◌≡◌, ◌+◌, ◌++◌, [], length, take, drop, refl, ◌∙◌, ap, arith, length-append}
+use Rattle.std.proofs.lemmas.List.{take_rest, length-take-le, length-drop}
 use Rattle.module_frames.specs.Fragments.{Fragment}
-use Rattle.module_top.specs.Desk.{Desk}
 use Rattle.module_top.proofs.Going.{served_none}
 use Rattle.module_top.proofs.Pieces.{Underway, all_served, fault_served, command_served, command_cut}
 use Rattle.module_top.proofs.answering.serve_piece.Goals as goal
@@ -58,7 +57,7 @@ loop-done-preserved g c =
     record {
       within = omega (arith, took.0, length-drop c.loop-done.done c.args.piece.now);
       served = rw none (command_served {next = record { module' = c.answer.new.module; gained = g.K.Sink.gained c.answer.new.replies }} {new = c.feed.new.self} {command = c.command.result.now}
-      way took c.command.ensures c.in-Ok.ensures.step c.in-Ok.ensures.whole);
+          way took c.command.ensures c.in-Ok.ensures.step c.in-Ok.ensures.whole);
       partial = c.clear.ensures.partial;
       sound = ap (λ (f : Fragment). f.broken) c.clear.ensures.cleared ∙ ap (λ (f : Fragment). f.broken) took.1 ∙ i.sound;
       place = omega (

@@ -1,7 +1,7 @@
-use Rattle.std.proofs.Common.{length-drop, arith, refl, ◌∙◌}
+use Rattle.std.proofs.Common.{length-drop, arith, ◌∙◌}
 use Rattle.std.proofs.Math.Seq.{take-add}
 use Rattle.std.proofs.lemmas.List.{take_rest}
-use Rattle.outside.proofs.Runs.{gains_both, gains_none}
+use Rattle.outside.proofs.Runs.{gains_both}
 use Rattle.module_top.proofs.answering.write_all.Goals as goal
 
 pub loop-done-preserved : goal.loop-done-preserved

@@ -1,4 +1,4 @@
-use Rattle.std.proofs.Common.{◌≡◌, ℕ, List, ◌∷◌, [], get_or, refl, sym, ap, ◌∙◌}
+use Rattle.std.proofs.Common.{ℕ, List, ◌∷◌, [], get_or, sym, ap, ◌∙◌}
 use Rattle.module_top.proofs.Words.{only_one}
 use Rattle.module_top.proofs.running.is_serve.Goals as goal
 

@@ -1,7 +1,6 @@
-use Rattle.std.proofs.Common.{◌≡◌, ◌≢◌, inl, inr, ℕ, List, refl, sym, ◌∙◌, ap, subst}
+use Rattle.std.proofs.Common.{inl, inr, sym, ◌∙◌, ap}
 use Rattle.std.specs.Prelude.{map}
 use Rattle.std.specs.String.{string_bytes}
-use Rattle.module_top.specs.declared.serving.Ended.{Ended}
 use Rattle.module_top.specs.Program.{exit_status}
 use Rattle.module_top.proofs.Outputs.{never_usage, never_memory, read_fault_of, write_fault_of, output_of}
 use Rattle.module_top.proofs.running.run.Goals as goal
@@ -25,8 +24,8 @@ returns-in-Ok-clause-usage g c = (
 pub returns-in-Ok-clause-untouched : goal.returns-in-Ok-clause-untouched
 returns-in-Ok-clause-untouched g c either =
     absurd (elim either [
-      inl two ↦ never_usage c.in-Ok.ended (sym c.exit_status.ensures ∙ two)
-    | inr seven ↦ never_memory c.in-Ok.ended (sym c.exit_status.ensures ∙ seven)
+      | inl two ↦ never_usage c.in-Ok.ended (sym c.exit_status.ensures ∙ two)
+      | inr seven ↦ never_memory c.in-Ok.ended (sym c.exit_status.ensures ∙ seven)
     ])
 
 pub returns-in-Ok-clause-read_fault : goal.returns-in-Ok-clause-read_fault

@@ -1,10 +1,8 @@
-use Rattle.std.proofs.Common.{◌≡◌, ◌≤◌, ◌<◌, ◌+◌, ◌-◌, ◌++◌, ℕ, false, List, [], length, take, drop, refl, sym, ◌∙◌, ap, subst, arith, length-append}
+use Rattle.std.proofs.Common.{◌≡◌, ◌++◌, [], length, take, refl, sym, ◌∙◌, subst, arith, length-append}
 use Rattle.std.proofs.lemmas.List.{length-take-le, append-nil}
-use Rattle.outside.specs.Contents.{Takes, IsSpent}
+use Rattle.outside.specs.Contents.{Takes}
 use Rattle.outside.proofs.Runs.{takes_none, takes_both}
-use Rattle.module_frames.specs.Fragments.{Fragment}
 use Rattle.module_frames.proofs.Holding.{nothing_is_partial}
-use Rattle.module_top.specs.Desk.{Desk, Served}
 use Rattle.module_top.proofs.Going.{served_none, served_both, cut_both}
 use Rattle.module_top.proofs.Ending.{answered_of, ends_at, all_of, broken_ending}
 use Rattle.module_top.proofs.serving.serve_stream.Goals as goal
