@@ -1,6 +1,5 @@
 //! A key's schedule, and the cipher under it.
 ghost use Rattle.std.specs.Prelude.{◌≡◌, ◌<◌, ◌≤◌, List, ℕ, length, IsTrue};
-ghost use Rattle.bits_core.specs.ByteList.{IsBytes};
 ghost use Rattle.bits_core.specs.Parameters.{is_aes_length};
 ghost use Rattle.aes_spec.specs.Aes.{cipher, inverse_cipher};
 ghost use Rattle.aes_spec.specs.Key.{words_state, aes, aes_inverse};
