@@ -25,10 +25,15 @@ speed() {
     echo "$best"
 }
 
-# peer BITS MASK: what `openssl speed` prints, in MB/s
+# peer BITS MASK: what `openssl speed` prints, in MB/s, the best of three
 peer() {
-    OPENSSL_ia32cap=$2 openssl speed -seconds 2 -bytes 65536 -evp "aes-$1-ctr" 2>/dev/null |
-        awk '/^AES/ { printf "%d", $2 / 1000 }'
+    local best=0 rate
+    for _ in 1 2 3; do
+        rate=$(OPENSSL_ia32cap=$2 openssl speed -seconds 1 -bytes 65536 -evp "aes-$1-ctr" 2>/dev/null |
+            awk '/^AES/ { printf "%d", $2 / 1000 }')
+        [ "$rate" -le "$best" ] || best=$rate
+    done
+    echo "$best"
 }
 
 grep -m1 'model name' /proc/cpuinfo | sed 's/.*: //'
