@@ -1,0 +1,6 @@
+pub mod Field
+pub mod Steps
+pub mod Groups
+pub mod Bytes
+pub mod Bits
+pub mod Sums
