@@ -4,3 +4,5 @@ pub mod Groups
 pub mod Bytes
 pub mod Bits
 pub mod Sums
+pub mod BlockBytes
+pub mod Absorbing

@@ -1,6 +1,6 @@
 -- The product of blocks and GHASH, after SP 800-38D, sections 6.3 and 6.4.
 -- A block is a list of 128 bits, leftmost first; the leftmost is the coefficient of x^0.
-use Rattle.std.specs.Prelude.{ℕ, ◌+◌, ◌/◌, ◌%◌, ◌^◌, ◌++◌, nat_eq, zero, suc, Bool, true, false, cond, not, List, [], ◌∷◌, length, take, drop, get_or, replicate}
+use Rattle.std.specs.Prelude.{ℕ, ◌+◌, ◌/◌, ◌%◌, ◌^◌, ◌++◌, nat_eq, zero, suc, Bool, true, false, cond, not, List, [], ◌∷◌, length, take, drop, get_or, replicate, if◌then◌else◌}
 
 -- the lowest k bits of n, the highest first
 unfoldable pub bits : ℕ → ℕ → List Bool
@@ -11,6 +11,20 @@ bits (suc k) n = nat_eq (n / 2 ^ k % 2) 1 ∷ bits k n
 unfoldable pub block_of : List ℕ → List Bool
 block_of [] = []
 block_of (b ∷ bytes) = bits 8 b ++ block_of bytes
+
+-- the number that bits spell, the first the highest
+unfoldable pub value_of_bits : List Bool → ℕ
+value_of_bits [] = 0
+value_of_bits (b ∷ bs) = (if b then 2 ^ length bs else 0) + value_of_bits bs
+
+-- the first n bytes of bits
+unfoldable pub first_bytes : ℕ → List Bool → List ℕ
+first_bytes zero bs = []
+first_bytes (suc n) bs = value_of_bits (take 8 bs) ∷ first_bytes n (drop 8 bs)
+
+-- a block as its 16 bytes
+unfoldable pub bytes_of : List Bool → List ℕ
+bytes_of block = first_bytes 16 block
 
 -- the sum of two bits
 abbrev pub plus_bit : Bool → Bool → Bool

@@ -1,6 +1,6 @@
 //! What is kept of a hash subkey, and the calls that take bytes into a running value.
 ghost use Rattle.std.specs.Prelude.{◌≡◌, ℕ, List};
-ghost use Rattle.ghash_core.specs.Block.{absorbed, block_of, blocks_of};
+ghost use Rattle.ghash_core.specs.Block.{absorbed, block_of, blocks_of, bytes_of};
 ghost use Rattle.ghash_core.specs.Filled.{IsFilled, IsWiped};
 
 use crate::{absorb, nibbles};
@@ -40,7 +40,7 @@ impl Table {
     /// Takes the blocks of `bytes` into `acc`, by the fastest way that there is.
     pub fn absorb(&self, acc: &mut [u8; 16], bytes: &[u8])
         ensures { (h : List ℕ) → IsFilled self.now h
-            → block_of acc.new ≡ absorbed (block_of h) (block_of acc.old) (blocks_of bytes.now) }
+            → acc.new ≡ bytes_of (absorbed (block_of h) (block_of acc.old) (blocks_of bytes.now)) }
     {
         self.absorb_table(acc, bytes)
     }
@@ -48,7 +48,7 @@ impl Table {
     /// Takes the blocks of `bytes` into `acc`, bit by bit as the standard writes it: slow, and plain to read.
     pub fn absorb_plain(&self, acc: &mut [u8; 16], bytes: &[u8])
         ensures { (h : List ℕ) → IsFilled self.now h
-            → block_of acc.new ≡ absorbed (block_of h) (block_of acc.old) (blocks_of bytes.now) }
+            → acc.new ≡ bytes_of (absorbed (block_of h) (block_of acc.old) (blocks_of bytes.now)) }
     {
         // The multiple by 1000 is H itself.
         let end = absorb::by_bits(self.multiples[8], absorb::number(acc), bytes);
@@ -58,7 +58,7 @@ impl Table {
     /// Takes the blocks of `bytes` into `acc`, four bits at a time.
     pub fn absorb_table(&self, acc: &mut [u8; 16], bytes: &[u8])
         ensures { (h : List ℕ) → IsFilled self.now h
-            → block_of acc.new ≡ absorbed (block_of h) (block_of acc.old) (blocks_of bytes.now) }
+            → acc.new ≡ bytes_of (absorbed (block_of h) (block_of acc.old) (blocks_of bytes.now)) }
     {
         let end = absorb::by_nibbles(&self.multiples, absorb::number(acc), bytes);
         *acc = end.to_be_bytes();

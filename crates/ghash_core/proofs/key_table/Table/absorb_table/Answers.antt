@@ -1,7 +1,7 @@
 use Rattle.std.proofs.Common.{ℕ, length, ap, ◌∙◌}
 use Rattle.ghash_core.specs.Block.{blocks_in}
 use Rattle.ghash_core.specs.Number.{horner, numbers, number_of}
-use Rattle.ghash_core.proofs.Sums.{absorbs}
+use Rattle.ghash_core.proofs.Absorbing.{absorbs}
 use Rattle.ghash_core.proofs.key_table.Table.absorb_table.Goals as goal
 
 pub returns : goal.returns
