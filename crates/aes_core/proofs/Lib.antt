@@ -1,0 +1,3 @@
+pub mod ByteTables
+pub mod Words
+pub mod UnderKey

@@ -1,0 +1,14 @@
+//! AES of FIPS 197 over a key schedule, and its key stream in counter mode.
+#![tactic(auto)]
+
+mod counter;
+mod expansion;
+mod rounds;
+mod schedule;
+mod tables;
+
+pub use counter::{gctr, gctr_plain};
+pub use schedule::Schedule;
+
+#[cfg(test)]
+mod tests;

@@ -1,0 +1,110 @@
+//! A key's schedule, and the cipher under it.
+ghost use Rattle.std.specs.Prelude.{◌≡◌, ◌<◌, ◌≤◌, List, ℕ, length, IsTrue};
+ghost use Rattle.bits_core.specs.ByteList.{IsBytes};
+ghost use Rattle.bits_core.specs.Parameters.{is_aes_length};
+ghost use Rattle.aes_spec.specs.Aes.{cipher, inverse_cipher};
+ghost use Rattle.aes_spec.specs.Key.{words_state, aes, aes_inverse};
+ghost use Rattle.aes_core.specs.Schedules.{blank, IsExpanded};
+
+use crate::expansion;
+use crate::rounds::{add_key, inverse_last_round, last_round, mixed_round, round_key, unmix};
+use std::marker::Model;
+
+/// The round keys of an AES key, or zeros. Contracts see the number of rounds and the sixty words.
+#[derive(Drop)]
+pub struct Schedule {
+    words: [[u8; 4]; 60],
+    rounds: usize,
+}
+
+impl Model for Schedule {
+    ghost use Rattle.std.specs.Prelude.{◌≤◌};
+    ghost use Rattle.aes_core.specs.Schedules.{KeySchedule};
+
+    ghost Value = { KeySchedule };
+
+    ghost view = { λ a. record { rounds = a.rounds; words = a.words } };
+
+    ghost invariant = { λ a. a.rounds ≤ 14 };
+}
+
+impl Schedule {
+    /// A schedule of zeros, under which nothing can be enciphered.
+    pub fn empty() -> Schedule
+        ensures { result ≡ blank }
+    {
+        Schedule {
+            words: [[0; 4]; 60],
+            rounds: 0,
+        }
+    }
+
+    /// Makes the schedule that of a key of 16, 24 or 32 bytes (FIPS 197, section 5.2).
+    pub fn expand(&mut self, key: &[u8])
+        requires { IsTrue (is_aes_length (length key.now)) }
+        ensures { IsExpanded self.new key.now }
+    {
+        self.wipe();
+        expansion::fill(&mut self.words, key);
+        self.rounds = key.len() / 4 + 6;
+    }
+
+    /// Makes all of it zero.
+    pub fn wipe(&mut self)
+        ensures { self.new ≡ blank }
+    {
+        self.words = [[0; 4]; 60];
+        self.rounds = 0;
+    }
+
+    /// Enciphers a block under the key that was expanded (FIPS 197, section 5.1).
+    pub fn encrypt(&self, block: &mut [u8; 16])
+        requires { 0 < self.now.rounds }
+        ensures { (key : List ℕ) → IsExpanded self.now key → block.new ≡ aes key block.old }
+    {
+        *block = enciphered(&self.words, self.rounds, *block);
+    }
+
+    /// Deciphers a block under the key that was expanded (FIPS 197, section 5.3).
+    pub fn decrypt(&self, block: &mut [u8; 16])
+        requires { 0 < self.now.rounds }
+        ensures { (key : List ℕ) → IsExpanded self.now key → block.new ≡ aes_inverse key block.old }
+    {
+        *block = deciphered(&self.words, self.rounds, *block);
+    }
+}
+
+#[cfg(test)]
+impl Schedule {
+    /// The last round key.
+    pub(crate) fn last_key(&self) -> [u8; 16] {
+        round_key(&self.words, self.rounds)
+    }
+}
+
+/// CIPHER() under the round keys of these words.
+fn enciphered(words: &[[u8; 4]; 60], rounds: usize, block: [u8; 16]) -> [u8; 16]
+    requires some { 0 < rounds }
+    requires most { rounds ≤ 14 }
+    ensures { result ≡ cipher (words_state words.now) rounds block }
+{
+    let mut state = add_key(block, round_key(words, 0));
+    for round in 1..rounds {
+        state = add_key(mixed_round(state), round_key(words, round));
+    }
+    add_key(last_round(state), round_key(words, rounds))
+}
+
+/// INVCIPHER() under the round keys of these words.
+fn deciphered(words: &[[u8; 4]; 60], rounds: usize, block: [u8; 16]) -> [u8; 16]
+    requires some { 0 < rounds }
+    requires most { rounds ≤ 14 }
+    ensures { result ≡ inverse_cipher (words_state words.now) rounds block }
+{
+    let mut state = inverse_last_round(add_key(block, round_key(words, rounds)));
+    for done in 1..rounds {
+        let unkeyed = add_key(state, round_key(words, rounds - done));
+        state = inverse_last_round(unmix(unkeyed));
+    }
+    add_key(state, round_key(words, 0))
+}
