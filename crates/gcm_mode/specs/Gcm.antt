@@ -1,4 +1,4 @@
--- GCM over AES, after SP 800-38D, section 7. All lengths are in bytes, and AES and the blocks of GHASH are taken as lists of bytes.
+-- GCM over AES, after SP 800-38D, section 7. Keys, IVs, texts and tags are lists of bytes.
 use Rattle.std.specs.Prelude.{ℕ, ◌*◌, ◌≤◌, ◌==◌, List, [], ◌∷◌, ◌++◌, length, if◌then◌else◌}
 use Rattle.std.specs.Int.{w64, to_be_bytes}
 use Rattle.bits_core.specs.ByteList.{zeros}
@@ -35,6 +35,7 @@ full_tag key counter aad ciphertext = gctr (aes key) counter (authenticated key 
 unfoldable pub gcm_tag : List ℕ → List ℕ → List ℕ → List ℕ → List ℕ
 gcm_tag key iv aad ciphertext = full_tag key (initial_counter key iv) aad ciphertext
 
+-- what sealing gives
 pub record Sealed : Type 0 where
   pub ciphertext : List ℕ
   pub tag : List ℕ

@@ -21,31 +21,14 @@ pub fn lengths(first: usize, second: usize) -> [u8; 16]
 }
 
 /// One more in the last 32 bits, modulo 2^32 (SP 800-38D, section 6.2).
-pub fn next_counter(block: &[u8; 16]) -> [u8; 16]
-    ensures { result ≡ inc32 block.now }
+pub fn next_counter(block: [u8; 16]) -> [u8; 16]
+    ensures { result ≡ inc32 block }
 {
-    let [
-        b0,
-        b1,
-        b2,
-        b3,
-        b4,
-        b5,
-        b6,
-        b7,
-        b8,
-        b9,
-        b10,
-        b11,
-        b12,
-        b13,
-        b14,
-        b15,
-    ] = *block;
-    let count = u32::from_be_bytes([b12, b13, b14, b15]).wrapping_add(1);
+    let count = u32::from_be_bytes([block[12], block[13], block[14], block[15]]).wrapping_add(1);
     let [c0, c1, c2, c3] = count.to_be_bytes();
     [
-        b0, b1, b2, b3, b4, b5, b6, b7, b8, b9, b10, b11, c0, c1, c2, c3,
+        block[0], block[1], block[2], block[3], block[4], block[5], block[6], block[7], block[8],
+        block[9], block[10], block[11], c0, c1, c2, c3,
     ]
 }
 

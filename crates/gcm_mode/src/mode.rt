@@ -11,7 +11,8 @@ use bits_core::{same, wipe};
 
 /// Encrypts `text` in place and writes the full tag over it and `aad` (SP 800-38D, section 7.1).
 ///
-/// `prepared` was filled. The IV has 1 to 255 bytes; `aad` and `text` have at most 65,664 bytes each, and either may be empty.
+/// `prepared` was filled. The IV has 1 to 255 bytes; `aad` and `text` have at most 65,664 bytes each, and either may be
+/// empty.
 pub fn seal(prepared: &Prepared, iv: &[u8], aad: &[u8], text: &mut [u8], tag: &mut [u8; 16])
     requires ready { IsReady prepared.now }
     requires iv { IsIv iv.now }
@@ -23,7 +24,7 @@ pub fn seal(prepared: &Prepared, iv: &[u8], aad: &[u8], text: &mut [u8], tag: &m
         → tag.new ≡ (gcm_encrypt key iv.now aad.now text.old).tag }
 {
     let counter = first_counter(prepared, iv);
-    gctr(&prepared.schedule, &next_counter(&counter), text);
+    gctr(&prepared.schedule, &next_counter(counter), text);
     *tag = tag_of(prepared, &counter, aad, text);
 }
 
@@ -48,7 +49,7 @@ pub fn open(prepared: &Prepared, iv: &[u8], aad: &[u8], text: &mut [u8], tag: &[
     let full = tag_of(prepared, &counter, aad, text);
     let authentic = same(&full[..tag.len()], tag);
     if authentic {
-        gctr(&prepared.schedule, &next_counter(&counter), text);
+        gctr(&prepared.schedule, &next_counter(counter), text);
     } else {
         wipe(text);
     }
