@@ -3,6 +3,8 @@ use Rattle.std.proofs.Common.{◌≡◌, ℕ, ◌<◌, List, [], ◌∷◌, map,
 use Rattle.std.specs.List.{range_with_len}
 use Rattle.std.proofs.lemmas.List.FromFn.{get_or-map-range_with_len}
 use Rattle.aes_spec.specs.Field.{product, remainder, times, first_from, inverse, affine_bit, byte_of, affine, sub_byte, inv_affine_bit, inv_affine, inv_sub_byte}
+use Rattle.std.specs.Int.{w32, to_be_bytes, rotate_right}
+use Rattle.aes_core.specs.Columns.{matrix_column}
 use Rattle.aes_spec.proofs.EveryByte.{on_bytes}
 use Rattle.aes_core.specs.declared.tables.TheConstants.{SBOX, INVERSE_SBOX, MIXED_SBOX, UNMIXED}
 
@@ -21,12 +23,34 @@ lists_on_bytes f g e b h =
     ∙ ap (λ (t : List (List ℕ)). slice_index_or t b []) e
     ∙ get_or-map-range_with_len g 0 256 b b [] h (omega arith)
 
-pub mixed_sbox_is : (b : ℕ) → b < 256 → slice_index_or MIXED_SBOX b [] ≡ times 2 (sub_byte b) ∷ times 1 (sub_byte b) ∷ times 1 (sub_byte b) ∷ times 3 (sub_byte b) ∷ []
+pub mixed_first : (b : ℕ) → b < 256 → to_be_bytes w32 (slice_index MIXED_SBOX b) ≡ matrix_column (2 ∷ 1 ∷ 1 ∷ 3 ∷ []) 0 (sub_byte b)
 unfolding product remainder times first_from inverse affine_bit byte_of affine sub_byte
-mixed_sbox_is =
-    lists_on_bytes (λ b. slice_index_or MIXED_SBOX b [])
-    (λ b. times 2 (sub_byte b) ∷ times 1 (sub_byte b) ∷ times 1 (sub_byte b) ∷ times 3 (sub_byte b) ∷ []) refl
+mixed_first = lists_on_bytes (λ b. to_be_bytes w32 (slice_index MIXED_SBOX b)) (λ b. matrix_column (2 ∷ 1 ∷ 1 ∷ 3 ∷ []) 0 (sub_byte b)) refl
 
-pub unmixed_is : (b : ℕ) → b < 256 → slice_index_or UNMIXED b [] ≡ times 14 b ∷ times 9 b ∷ times 13 b ∷ times 11 b ∷ []
+pub mixed_second : (b : ℕ) → b < 256 → to_be_bytes w32 (rotate_right w32 (slice_index MIXED_SBOX b) 8) ≡ matrix_column (2 ∷ 1 ∷ 1 ∷ 3 ∷ []) 1 (sub_byte b)
+unfolding product remainder times first_from inverse affine_bit byte_of affine sub_byte
+mixed_second = lists_on_bytes (λ b. to_be_bytes w32 (rotate_right w32 (slice_index MIXED_SBOX b) 8)) (λ b. matrix_column (2 ∷ 1 ∷ 1 ∷ 3 ∷ []) 1 (sub_byte b)) refl
+
+pub mixed_third : (b : ℕ) → b < 256 → to_be_bytes w32 (rotate_right w32 (slice_index MIXED_SBOX b) 16) ≡ matrix_column (2 ∷ 1 ∷ 1 ∷ 3 ∷ []) 2 (sub_byte b)
+unfolding product remainder times first_from inverse affine_bit byte_of affine sub_byte
+mixed_third = lists_on_bytes (λ b. to_be_bytes w32 (rotate_right w32 (slice_index MIXED_SBOX b) 16)) (λ b. matrix_column (2 ∷ 1 ∷ 1 ∷ 3 ∷ []) 2 (sub_byte b)) refl
+
+pub mixed_fourth : (b : ℕ) → b < 256 → to_be_bytes w32 (rotate_right w32 (slice_index MIXED_SBOX b) 24) ≡ matrix_column (2 ∷ 1 ∷ 1 ∷ 3 ∷ []) 3 (sub_byte b)
+unfolding product remainder times first_from inverse affine_bit byte_of affine sub_byte
+mixed_fourth = lists_on_bytes (λ b. to_be_bytes w32 (rotate_right w32 (slice_index MIXED_SBOX b) 24)) (λ b. matrix_column (2 ∷ 1 ∷ 1 ∷ 3 ∷ []) 3 (sub_byte b)) refl
+
+pub unmixed_first : (b : ℕ) → b < 256 → to_be_bytes w32 (slice_index UNMIXED b) ≡ matrix_column (14 ∷ 9 ∷ 13 ∷ 11 ∷ []) 0 b
 unfolding product remainder times
-unmixed_is = lists_on_bytes (λ b. slice_index_or UNMIXED b []) (λ b. times 14 b ∷ times 9 b ∷ times 13 b ∷ times 11 b ∷ []) refl
+unmixed_first = lists_on_bytes (λ b. to_be_bytes w32 (slice_index UNMIXED b)) (matrix_column (14 ∷ 9 ∷ 13 ∷ 11 ∷ []) 0) refl
+
+pub unmixed_second : (b : ℕ) → b < 256 → to_be_bytes w32 (rotate_right w32 (slice_index UNMIXED b) 8) ≡ matrix_column (14 ∷ 9 ∷ 13 ∷ 11 ∷ []) 1 b
+unfolding product remainder times
+unmixed_second = lists_on_bytes (λ b. to_be_bytes w32 (rotate_right w32 (slice_index UNMIXED b) 8)) (matrix_column (14 ∷ 9 ∷ 13 ∷ 11 ∷ []) 1) refl
+
+pub unmixed_third : (b : ℕ) → b < 256 → to_be_bytes w32 (rotate_right w32 (slice_index UNMIXED b) 16) ≡ matrix_column (14 ∷ 9 ∷ 13 ∷ 11 ∷ []) 2 b
+unfolding product remainder times
+unmixed_third = lists_on_bytes (λ b. to_be_bytes w32 (rotate_right w32 (slice_index UNMIXED b) 16)) (matrix_column (14 ∷ 9 ∷ 13 ∷ 11 ∷ []) 2) refl
+
+pub unmixed_fourth : (b : ℕ) → b < 256 → to_be_bytes w32 (rotate_right w32 (slice_index UNMIXED b) 24) ≡ matrix_column (14 ∷ 9 ∷ 13 ∷ 11 ∷ []) 3 b
+unfolding product remainder times
+unmixed_fourth = lists_on_bytes (λ b. to_be_bytes w32 (rotate_right w32 (slice_index UNMIXED b) 24)) (matrix_column (14 ∷ 9 ∷ 13 ∷ 11 ∷ []) 3) refl

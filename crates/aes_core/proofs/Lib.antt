@@ -1,3 +1,4 @@
 pub mod ByteTables
+pub mod WordSums
 pub mod Words
 pub mod UnderKey

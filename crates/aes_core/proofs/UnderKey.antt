@@ -3,7 +3,7 @@ use Rattle.std.proofs.Common.{◌≡◌, ℕ, zero, suc, ◌+◌, ◌-◌, ◌*�
 use Rattle.std.proofs.lemmas.List.{get_or_append_left}
 use Rattle.aes_spec.specs.Aes.{sub_bytes, inv_sub_bytes, shift_rows, inv_shift_rows, mix_columns, inv_mix_columns, add_round_key, mixed_rounds, cipher, unmixed_rounds, inverse_cipher}
 use Rattle.aes_spec.specs.Key.{key_words, key_rounds, schedule_words, words_state, round_key, aes, aes_inverse}
-use Rattle.aes_core.specs.Schedules.{KeySchedule, zero_words, expanded}
+use Rattle.aes_core.specs.Schedules.{KeySchedule, zero_words, expanded, IsExpanded}
 use Rattle.aes_core.proofs.Words.{length-key_expansion}
 
 mixed_rounds_same : (w v : ℕ → List ℕ) (n : ℕ) (s : List ℕ) → ((r : ℕ) → r ≤ n → w r ≡ v r) → mixed_rounds w n s ≡ mixed_rounds v n s
@@ -61,3 +61,7 @@ inverse_cipher_under_key words rounds key block is =
     let zs : List (List ℕ) = zero_words (60 - 4 * (key_words key + 7)) in
     ap (λ (s : KeySchedule). inverse_cipher (words_state s.words) s.rounds block) is
     ∙ inverse_cipher_same (words_state (schedule_words key ++ zs)) (round_key key) (key_rounds key) block (round_keys_same key zs)
+
+-- an expanded schedule has rounds, as each call under it requires
+pub some_rounds : (schedule : KeySchedule) (key : List ℕ) → IsExpanded schedule key → 0 < schedule.rounds
+some_rounds schedule key is = omega (arith, ap (λ (s : KeySchedule). s.rounds) is.whole)

@@ -2,7 +2,7 @@
 use Rattle.std.specs.Prelude.{◌≡◌, ℕ, ◌+◌, ◌-◌, ◌*◌, List, ◌++◌, length, replicate, IsTrue}
 use Rattle.bits_core.specs.ByteList.{zeros}
 use Rattle.bits_core.specs.Parameters.{is_aes_length}
-use Rattle.aes_spec.specs.Key.{key_words, key_rounds, schedule_words, words_state}
+use Rattle.aes_spec.specs.Key.{key_words, key_rounds, schedule_words}
 
 -- the number of rounds, and room for sixty words of four bytes
 pub record KeySchedule : Type 0 where
@@ -26,7 +26,3 @@ expanded key =
 pub record IsExpanded (schedule : KeySchedule) (key : List ℕ) : Type 0 where
   pub fits : IsTrue (is_aes_length (length key))
   pub whole : schedule ≡ expanded key
-
--- round key r of a schedule
-abbrev pub round_key_of : KeySchedule → ℕ → List ℕ
-round_key_of schedule r = words_state schedule.words r

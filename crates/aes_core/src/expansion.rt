@@ -1,5 +1,5 @@
 //! KEYEXPANSION() (FIPS 197, section 5.2).
-ghost use Rattle.std.specs.Prelude.{◌≡◌, ◌≤◌, ◌<◌, ◌+◌, ◌-◌, ◌*◌, ◌/◌, ◌++◌, length, take, IsTrue};
+ghost use Rattle.std.specs.Prelude.{◌≡◌, ◌≤◌, ◌<◌, ◌+◌, ◌-◌, ◌*◌, ◌/◌, ◌++◌, length, IsTrue};
 ghost use Rattle.bits_core.specs.Parameters.{is_aes_length};
 ghost use Rattle.aes_spec.specs.Key.{added_word, word_sum, next_word, key_words, schedule_words};
 ghost use Rattle.aes_core.specs.Schedules.{zero_words};

@@ -1,9 +1,10 @@
 //! The steps of a round (FIPS 197, sections 5.1 and 5.3). A state is its sixteen bytes, column after column.
-ghost use Rattle.std.specs.Prelude.{◌≡◌, ◌<◌, [], ◌∷◌, slice_index};
-ghost use Rattle.aes_spec.specs.Field.{times, sub_byte, inv_sub_byte};
+ghost use Rattle.std.specs.Prelude.{◌≡◌, ◌<◌, [], ◌∷◌};
+ghost use Rattle.std.specs.Int.{w32, to_be_bytes};
+ghost use Rattle.aes_spec.specs.Field.{sub_byte, inv_sub_byte};
 ghost use Rattle.aes_spec.specs.Aes.{sub_bytes, inv_sub_bytes, shift_rows, inv_shift_rows, mix_columns, inv_mix_columns, add_round_key};
-ghost use Rattle.aes_spec.specs.Key.{words_state};
-ghost use Rattle.aes_core.specs.Columns.{mixed_column, turned_columns};
+ghost use Rattle.aes_spec.specs.Key.{words_state, word_sum};
+ghost use Rattle.aes_core.specs.Columns.{mixed_column, matrix_column};
 
 use crate::tables::{INVERSE_SBOX, MIXED_SBOX, SBOX, UNMIXED};
 
@@ -23,60 +24,66 @@ fn inverse_sub(byte: u8) -> u8
     INVERSE_SBOX[byte as usize]
 }
 
-/// The byte after SBOX(), times {02}, {01}, {01} and {03}.
+/// The first column of MIXCOLUMNS()'s matrix times SBOX() of a byte.
 #[inline(always)]
-fn mixed_sub(byte: u8) -> [u8; 4]
-    ensures { result ≡ times 2 (sub_byte byte) ∷ times 1 (sub_byte byte) ∷ times 1 (sub_byte byte) ∷ times 3 (sub_byte byte) ∷ [] }
+fn mixed_sub(byte: u8) -> u32
+    ensures { to_be_bytes w32 result ≡ matrix_column (2 ∷ 1 ∷ 1 ∷ 3 ∷ []) 0 (sub_byte byte) }
 {
     MIXED_SBOX[byte as usize]
 }
 
-/// The byte times {0e}, {09}, {0d} and {0b}.
+/// The second column.
 #[inline(always)]
-fn unmixed(byte: u8) -> [u8; 4]
-    ensures { result ≡ times 14 byte ∷ times 9 byte ∷ times 13 byte ∷ times 11 byte ∷ [] }
+fn mixed_sub_second(byte: u8) -> u32
+    ensures { to_be_bytes w32 result ≡ matrix_column (2 ∷ 1 ∷ 1 ∷ 3 ∷ []) 1 (sub_byte byte) }
 {
-    UNMIXED[byte as usize]
+    MIXED_SBOX[byte as usize].rotate_right(8)
 }
 
-/// A column of MIXCOLUMNS() after SUBBYTES().
+/// The third column.
 #[inline(always)]
-fn mixed_sub_column(a: u8, b: u8, c: u8, d: u8) -> [u8; 4]
-    ensures { result ≡ mixed_column (2 ∷ 1 ∷ 1 ∷ 3 ∷ []) (sub_byte a ∷ sub_byte b ∷ sub_byte c ∷ sub_byte d ∷ []) }
+fn mixed_sub_third(byte: u8) -> u32
+    ensures { to_be_bytes w32 result ≡ matrix_column (2 ∷ 1 ∷ 1 ∷ 3 ∷ []) 2 (sub_byte byte) }
 {
-    turned_sum(mixed_sub(a), mixed_sub(b), mixed_sub(c), mixed_sub(d))
+    MIXED_SBOX[byte as usize].rotate_right(16)
 }
 
-/// A column of INVMIXCOLUMNS().
+/// The fourth column.
 #[inline(always)]
-fn unmixed_column(a: u8, b: u8, c: u8, d: u8) -> [u8; 4]
-    ensures { result ≡ mixed_column (14 ∷ 9 ∷ 13 ∷ 11 ∷ []) (a ∷ b ∷ c ∷ d ∷ []) }
+fn mixed_sub_fourth(byte: u8) -> u32
+    ensures { to_be_bytes w32 result ≡ matrix_column (2 ∷ 1 ∷ 1 ∷ 3 ∷ []) 3 (sub_byte byte) }
 {
-    turned_sum(unmixed(a), unmixed(b), unmixed(c), unmixed(d))
+    MIXED_SBOX[byte as usize].rotate_right(24)
 }
 
-/// The sum of four columns, each turned down one row more than the one before.
+/// Four bytes as a word, the first one highest.
 #[inline(always)]
-fn turned_sum(a: [u8; 4], b: [u8; 4], c: [u8; 4], d: [u8; 4]) -> [u8; 4]
-    ensures { result ≡ turned_columns a b c d }
+fn word_of(bytes: &[u8; 4]) -> u32
+    ensures { to_be_bytes w32 result ≡ bytes.now }
 {
-    [
-        (a[0] ^ b[3]) ^ (c[2] ^ d[1]),
-        (a[1] ^ b[0]) ^ (c[3] ^ d[2]),
-        (a[2] ^ b[1]) ^ (c[0] ^ d[3]),
-        (a[3] ^ b[2]) ^ (c[1] ^ d[0]),
-    ]
+    u32::from_be_bytes(*bytes)
 }
 
-/// SUBBYTES(), SHIFTROWS() and MIXCOLUMNS().
+/// A column of a round: four bytes after SBOX(), the product with MIXCOLUMNS()'s matrix, and a word of
+/// the round key.
 #[inline(always)]
-pub(crate) fn mixed_round(s: [u8; 16]) -> [u8; 16]
-    ensures { result ≡ mix_columns (shift_rows (sub_bytes s)) }
+fn round_column(a: u8, b: u8, c: u8, d: u8, key: [u8; 4]) -> [u8; 4]
+    ensures { result ≡ word_sum (mixed_column (2 ∷ 1 ∷ 1 ∷ 3 ∷ []) (sub_byte a ∷ sub_byte b ∷ sub_byte c ∷ sub_byte d ∷ [])) key }
 {
-    let a = mixed_sub_column(s[0], s[5], s[10], s[15]);
-    let b = mixed_sub_column(s[4], s[9], s[14], s[3]);
-    let c = mixed_sub_column(s[8], s[13], s[2], s[7]);
-    let d = mixed_sub_column(s[12], s[1], s[6], s[11]);
+    let front = mixed_sub(a) ^ mixed_sub_second(b);
+    let back = mixed_sub_third(c) ^ mixed_sub_fourth(d);
+    ((front ^ back) ^ word_of(&key)).to_be_bytes()
+}
+
+/// SUBBYTES(), SHIFTROWS(), MIXCOLUMNS() and ADDROUNDKEY().
+#[inline(always)]
+pub(crate) fn middle_round(s: [u8; 16], k: [u8; 16]) -> [u8; 16]
+    ensures { result ≡ add_round_key k (mix_columns (shift_rows (sub_bytes s))) }
+{
+    let a = round_column(s[0], s[5], s[10], s[15], [k[0], k[1], k[2], k[3]]);
+    let b = round_column(s[4], s[9], s[14], s[3], [k[4], k[5], k[6], k[7]]);
+    let c = round_column(s[8], s[13], s[2], s[7], [k[8], k[9], k[10], k[11]]);
+    let d = round_column(s[12], s[1], s[6], s[11], [k[12], k[13], k[14], k[15]]);
     [
         a[0], a[1], a[2], a[3], b[0], b[1], b[2], b[3], c[0], c[1], c[2], c[3], d[0], d[1], d[2],
         d[3],
@@ -106,6 +113,48 @@ pub(crate) fn last_round(s: [u8; 16]) -> [u8; 16]
         sub(s[6]),
         sub(s[11]),
     ]
+}
+
+/// The first column of INVMIXCOLUMNS()'s matrix times a byte.
+#[inline(always)]
+fn unmixed(byte: u8) -> u32
+    ensures { to_be_bytes w32 result ≡ matrix_column (14 ∷ 9 ∷ 13 ∷ 11 ∷ []) 0 byte }
+{
+    UNMIXED[byte as usize]
+}
+
+/// The second column.
+#[inline(always)]
+fn unmixed_second(byte: u8) -> u32
+    ensures { to_be_bytes w32 result ≡ matrix_column (14 ∷ 9 ∷ 13 ∷ 11 ∷ []) 1 byte }
+{
+    UNMIXED[byte as usize].rotate_right(8)
+}
+
+/// The third column.
+#[inline(always)]
+fn unmixed_third(byte: u8) -> u32
+    ensures { to_be_bytes w32 result ≡ matrix_column (14 ∷ 9 ∷ 13 ∷ 11 ∷ []) 2 byte }
+{
+    UNMIXED[byte as usize].rotate_right(16)
+}
+
+/// The fourth column.
+#[inline(always)]
+fn unmixed_fourth(byte: u8) -> u32
+    ensures { to_be_bytes w32 result ≡ matrix_column (14 ∷ 9 ∷ 13 ∷ 11 ∷ []) 3 byte }
+{
+    UNMIXED[byte as usize].rotate_right(24)
+}
+
+/// A column of INVMIXCOLUMNS().
+#[inline(always)]
+fn unmixed_column(a: u8, b: u8, c: u8, d: u8) -> [u8; 4]
+    ensures { result ≡ mixed_column (14 ∷ 9 ∷ 13 ∷ 11 ∷ []) (a ∷ b ∷ c ∷ d ∷ []) }
+{
+    let front = unmixed(a) ^ unmixed_second(b);
+    let back = unmixed_third(c) ^ unmixed_fourth(d);
+    (front ^ back).to_be_bytes()
 }
 
 /// INVMIXCOLUMNS().

@@ -1,13 +1,12 @@
 //! A key's schedule, and the cipher under it.
 ghost use Rattle.std.specs.Prelude.{◌≡◌, ◌<◌, ◌≤◌, List, ℕ, length, IsTrue};
-ghost use Rattle.bits_core.specs.ByteList.{IsBytes};
 ghost use Rattle.bits_core.specs.Parameters.{is_aes_length};
 ghost use Rattle.aes_spec.specs.Aes.{cipher, inverse_cipher};
 ghost use Rattle.aes_spec.specs.Key.{words_state, aes, aes_inverse};
 ghost use Rattle.aes_core.specs.Schedules.{blank, IsExpanded};
 
 use crate::expansion;
-use crate::rounds::{add_key, inverse_last_round, last_round, mixed_round, round_key, unmix};
+use crate::rounds::{add_key, inverse_last_round, last_round, middle_round, round_key, unmix};
 use std::marker::Model;
 
 /// The round keys of an AES key, or zeros. Contracts see the number of rounds and the sixty words.
@@ -90,7 +89,8 @@ fn enciphered(words: &[[u8; 4]; 60], rounds: usize, block: [u8; 16]) -> [u8; 16]
 {
     let mut state = add_key(block, round_key(words, 0));
     for round in 1..rounds {
-        state = add_key(mixed_round(state), round_key(words, round));
+        let mixed = middle_round(state, round_key(words, round));
+        state = mixed;
     }
     add_key(last_round(state), round_key(words, rounds))
 }

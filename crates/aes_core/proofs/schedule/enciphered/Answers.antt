@@ -20,8 +20,8 @@ loop-round-init c = c.add_key-state.ensures ∙ ap (λ (k : List ℕ). add_round
 pub loop-round-preserved : goal.loop-round-preserved
 loop-round-preserved c =
     let w = words_state c.args.words.now in
-    c.add_key-state-in-loop-round.ensures
-    ∙ ap₂ (λ (k t : List ℕ). add_round_key k t) c.round_key-in-loop-round.ensures c.mixed_round.ensures
+    c.middle_round-mixed.ensures
+    ∙ ap (λ (k : List ℕ). add_round_key k (mix_columns (shift_rows (sub_bytes c.loop-round.state)))) c.round_key-in-loop-round.ensures
     ∙ next_round w c.loop-round.round c.args.block c.loop-round.state c.loop-round.auto.round c.loop-round.invariant
 
 pub returns : goal.returns
