@@ -50,6 +50,10 @@ gcm_encrypt key iv aad text =
     let ciphertext = gctr (aes key) (text_counter key iv) text in
     record { ciphertext = ciphertext; tag = gcm_tag key iv aad ciphertext }
 
+-- the text of a ciphertext (7.2, step 4)
+unfoldable pub gcm_text : List ℕ → List ℕ → List ℕ → List ℕ
+gcm_text key iv ciphertext = gctr (aes key) (text_counter key iv) ciphertext
+
 -- an IV that the module takes: 1 to 255 bytes
 abbrev pub IsIv : List ℕ → Type 0
 IsIv iv = (1 ≤ length iv) × (length iv ≤ 255)

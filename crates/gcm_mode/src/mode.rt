@@ -1,7 +1,7 @@
 //! Sealing and opening.
 ghost use Rattle.std.specs.Prelude.{◌≡◌, ◌↔◌, ℕ, List, ◌<◌, ◌≤◌, length, take, IsTrue, IsFalse};
 ghost use Rattle.bits_core.specs.ByteList.{zeros};
-ghost use Rattle.gcm_mode.specs.Gcm.{gcm_encrypt, gcm_tag, IsIv, IsSealable, IsTagLength};
+ghost use Rattle.gcm_mode.specs.Gcm.{gcm_encrypt, gcm_tag, gcm_text, IsIv, IsSealable, IsTagLength};
 ghost use Rattle.gcm_mode.specs.Filled.{IsFilled, IsReady};
 
 use crate::Prepared;
@@ -41,6 +41,8 @@ pub fn open(prepared: &Prepared, iv: &[u8], aad: &[u8], text: &mut [u8], tag: &[
     requires tag { IsTagLength (length tag.now) }
     ensures answer { (key : List ℕ) → IsFilled prepared.now key
         → IsTrue result ↔ (tag.now ≡ take (length tag.now) (gcm_tag key iv.now aad.now text.old)) }
+    ensures decrypted { (key : List ℕ) → IsFilled prepared.now key → IsTrue result
+        → text.new ≡ gcm_text key iv.now text.old }
     ensures opened { (key : List ℕ) → IsFilled prepared.now key → IsTrue result
         → (gcm_encrypt key iv.now aad.now text.new).ciphertext ≡ text.old }
     ensures refused { IsFalse result → text.new ≡ zeros (length text.old) }
