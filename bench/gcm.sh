@@ -6,7 +6,7 @@ cd "$(dirname "$0")"
 cd ../crates/gcm_bench
 rt run -- 16 1 >/dev/null 2>&1
 grep -m1 "model name" /proc/cpuinfo
-speed "seal, AES-256" 65536 300 out/gcm_bench
-speed "seal, AES-256" 1024 20000 out/gcm_bench
+speed "seal, AES-256" 65536 150 out/gcm_bench
+speed "seal, AES-256" 1024 10000 out/gcm_bench
 peers 65536
 peers 1024

@@ -6,9 +6,9 @@ cd "$(dirname "$0")"
 cd ../crates/ghash_bench
 rt run -- table 16 1 >/dev/null 2>&1
 grep -m1 "model name" /proc/cpuinfo
-speed "ghash, bit by bit" 65536 200 out/ghash_bench plain
-speed "ghash, table" 65536 1000 out/ghash_bench table
-speed "ghash, bit by bit" 1024 10000 out/ghash_bench plain
-speed "ghash, table" 1024 50000 out/ghash_bench table
+speed "ghash, bit by bit" 65536 60 out/ghash_bench plain
+speed "ghash, table" 65536 300 out/ghash_bench table
+speed "ghash, bit by bit" 1024 4000 out/ghash_bench plain
+speed "ghash, table" 1024 20000 out/ghash_bench table
 peers 65536
 peers 1024

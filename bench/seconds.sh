@@ -1,9 +1,9 @@
 # Sourced by the scripts beside it: speeds in MB/s by user time, at two counts of which the difference is taken.
 
-# the least user time, in milliseconds, of three runs of a program with its words
+# the least user time, in milliseconds, of seven runs of a program with its words
 least() {
     local best= taken TIMEFORMAT=%U
-    for _ in 1 2 3; do
+    for _ in 1 2 3 4 5 6 7; do
         taken=$({ time "$@" >/dev/null; } 2>&1)
         taken=$(awk -v seconds="$taken" 'BEGIN { printf "%d", seconds * 1000 }')
         if [ -z "$best" ] || [ "$taken" -lt "$best" ]; then best=$taken; fi
@@ -22,10 +22,13 @@ speed() {
         'BEGIN { printf "%-40s %6d bytes %8.1f MB/s\n", name, size, bytes / 1000 / time }'
 }
 
-# peer BYTES NAME ENVIRONMENT: OpenSSL's AES-256-GCM, also by user time
+# peer BYTES NAME ENVIRONMENT: OpenSSL's AES-256-GCM, also by user time, the best of three
 peer() {
-    env "$3" openssl speed -evp aes-256-gcm -bytes "$1" -seconds 1 2>/dev/null |
-        awk -v name="$2" -v size="$1" '/^AES-256-GCM/ { printf "%-40s %6d bytes %8.1f MB/s\n", name, size, $2 / 1000 }'
+    for _ in 1 2 3; do
+        env "$3" openssl speed -evp aes-256-gcm -bytes "$1" -seconds 1 2>/dev/null
+    done | awk -v name="$2" -v size="$1" '
+        /^AES-256-GCM/ && $2 + 0 > best { best = $2 + 0 }
+        END { printf "%-40s %6d bytes %8.1f MB/s\n", name, size, best / 1000 }'
 }
 
 # peers BYTES: with and without its instructions for AES and for products without carries
