@@ -1,0 +1,3 @@
+pub mod Running
+pub mod Counter
+pub mod OneKey
