@@ -1,0 +1,6 @@
+//! HMAC_DRBG over SHA-256 (SP 800-90A Rev. 1, 10.1.2).
+#![tactic(auto)]
+
+mod generator;
+
+pub use generator::Drbg;
