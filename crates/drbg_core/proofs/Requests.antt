@@ -1,11 +1,13 @@
 -- The values that a request draws, and what the halves of a request leave.
 use Rattle.bits_core.specs.declared.algorithm.Alg.TheVariants.{Sha256}
+use Rattle.hmac_core.specs.Blocks.{joined}
 use Rattle.hmac_core.specs.Hmac.{hmac}
 use Rattle.hmac_core.proofs.Lengths.{length-hmac}
-use Rattle.hmac_core.proofs.Blocks.{IsInBlocksOf32}
-use Rattle.drbg_core.specs.Generator.{mix, update, primed, value_after}
+use Rattle.hmac_core.proofs.Blocks.{IsInBlocksOf32, length-joined}
+use Rattle.drbg_core.specs.Generator.{generate, drawn, mix, update, primed, value_after}
 use Rattle.drbg_core.specs.declared.generator.Drbg.{Drbg}
-use Rattle.std.proofs.Common.{◌≡◌, ℕ, suc, ◌+◌, ◌/◌, ◌%◌, ◌<◌, List, [], ◌∷◌, length, refl, ap, ◌∙◌, arith}
+use Rattle.std.proofs.Common.{◌≡◌, ℕ, suc, ◌+◌, ◌/◌, ◌%◌, ◌<◌, List, [], ◌∷◌, ◌*◌, length, refl, ap, ◌∙◌, arith}
+use Rattle.std.proofs.lemmas.List.{length-take}
 
 -- each value is a block of 32 bytes
 pub values_of_32 : (k v : List ℕ) → IsInBlocksOf32 (value_after k v)
@@ -58,3 +60,11 @@ pub same_parts : (k l v w : List ℕ) (n : ℕ) → k ≡ l → v ≡ w
 same_parts k l v w n p q =
     ap (λ (x : List ℕ). let g : Drbg = record { k = x; v = v; counter = n } in g) p
     ∙ ap (λ (x : List ℕ). let g : Drbg = record { k = l; v = x; counter = n } in g) q
+
+-- as many bytes as were asked for
+pub length-bytes : (g : Drbg) (additional : List ℕ) (n : ℕ) → length (generate g additional n).bytes ≡ n
+unfolding generate drawn
+length-bytes g additional n =
+    let p : Drbg = primed g additional in
+    let blocks = (n + 31) / 32 in
+    length-take n (joined (value_after p.k p.v) blocks) ∙ omega (arith, length-joined (value_after p.k p.v) (values_of_32 p.k p.v) blocks)

@@ -41,7 +41,8 @@ impl Drbg {
     /// Seeds the generator anew, whatever it held (SP 800-90A Rev. 1, 10.1.2.3). The inputs have any
     /// length. The counter is 1.
     pub fn instantiate(&mut self, entropy: &[u8], nonce: &[u8], personal: &[u8])
-        ensures { self.new ≡ instantiate entropy.now nonce.now personal.now }
+        ensures state { self.new ≡ instantiate entropy.now nonce.now personal.now }
+        ensures counter { self.new.counter ≡ 1 }
     {
         self.k = [0; 32];
         self.v = [1; 32];
@@ -52,7 +53,8 @@ impl Drbg {
     /// Mixes fresh entropy in (SP 800-90A Rev. 1, 10.1.2.4). The inputs have any length. The counter
     /// is 1.
     pub fn reseed(&mut self, entropy: &[u8], additional: &[u8])
-        ensures { self.new ≡ reseed self.old entropy.now additional.now }
+        ensures state { self.new ≡ reseed self.old entropy.now additional.now }
+        ensures counter { self.new.counter ≡ 1 }
     {
         self.counter = 1;
         self.update(entropy, additional, &[]);
@@ -65,6 +67,7 @@ impl Drbg {
         requires counter { self.old.counter ≤ 1024 }
         ensures bytes { out.new ≡ (generate self.old additional.now (length out.old)).bytes }
         ensures after { self.new ≡ (generate self.old additional.now (length out.old)).after }
+        ensures counter { self.new.counter ≡ self.old.counter + 1 }
     {
         self.prime(additional);
         fill(&self.k, &mut self.v, out);

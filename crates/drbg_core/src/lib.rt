@@ -2,5 +2,7 @@
 #![tactic(auto)]
 
 mod generator;
+#[cfg(test)]
+mod tests;
 
 pub use generator::Drbg;

@@ -32,3 +32,9 @@ returns-clause-after c =
     ∙ ap (λ (p : Drbg). let g : Drbg = record p { v = value_after p.k p.v ((n + 31) / 32) } in update g (additional ++ [] ++ [])) c.prime.ensures
     ∙ ap (update drew) bare in
     ap (λ (g : Drbg). let after : Drbg = record g { counter = g.counter + 1 } in after) last
+
+pub returns-clause-counter : goal.returns-clause-counter
+returns-clause-counter c =
+    let updated : c.update.new.self.counter ≡ c.prime.new.self.counter = ap (λ (g : Drbg). g.counter) c.update.ensures ∙ counter-update _ _ in
+    let kept : c.prime.new.self.counter ≡ c.args.self.now.counter = ap (λ (g : Drbg). g.counter) c.prime.ensures ∙ counter-primed c.args.self.now c.args.additional.now in
+    omega arith
