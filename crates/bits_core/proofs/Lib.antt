@@ -1,1 +1,3 @@
 pub mod ZeroPadding
+pub mod XorBytes
+mod Appended

@@ -1,5 +1,9 @@
 -- Lists of bytes.
-use Rattle.std.specs.Prelude.{ℕ, ◌-◌, List, [], ◌∷◌, ◌++◌, length, replicate, bit_xor}
+use Rattle.std.specs.Prelude.{ℕ, ◌-◌, ◌<◌, List, [], ◌∷◌, ◌++◌, length, replicate, bit_xor, slice_index}
+
+-- each number is a byte; past the end `slice_index` is 0
+abbrev pub IsBytes : List ℕ → Type 0
+IsBytes xs = (n : ℕ) → slice_index xs n < 256
 
 -- n zero bytes
 abbrev pub zeros : ℕ → List ℕ

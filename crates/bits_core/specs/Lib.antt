@@ -1,3 +1,4 @@
 pub mod Algorithms
 pub mod Parameters
 pub mod ByteList
+pub mod Shown

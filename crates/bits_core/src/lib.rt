@@ -3,8 +3,15 @@
 
 mod algorithm;
 mod byte_list;
+mod outbox;
 mod parameter;
+mod port;
 
 pub use algorithm::Alg;
-pub use byte_list::wipe;
+pub use byte_list::{same, wipe, xor_into};
+pub use outbox::Outbox;
 pub use parameter::{Domain, Header, Kind, SlotId, fits};
+pub use port::{Enabled, Inhibited, Port};
+
+#[cfg(test)]
+mod tests;

@@ -76,11 +76,11 @@ impl Drbg {
     }
 
     // Update with additional input, where there is any.
-    fn prime(&mut self, additional: &[u8])
-        ensures { self.new ≡ primed self.old additional.now }
+    fn prime(&mut self, input: &[u8])
+        ensures { self.new ≡ primed self.old input.now }
     {
-        if !additional.is_empty() {
-            self.update(additional, &[], &[]);
+        if !input.is_empty() {
+            self.update(input, &[], &[]);
         }
     }
 

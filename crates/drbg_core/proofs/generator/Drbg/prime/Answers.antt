@@ -7,13 +7,13 @@ use Rattle.drbg_core.proofs.generator.Drbg.prime.Goals as goal
 
 pub returns-then-not-is_empty : goal.returns-then-not-is_empty
 returns-then-not-is_empty c =
-    let additional = c.args.additional.now in
-    let some : 0 < length additional = grind (arith, nat_tests) in
+    let input = c.args.input.now in
+    let some : 0 < length input = grind (arith, nat_tests) in
     c.update.ensures
-    ∙ ap (update c.args.self.now) (append-nil (additional ++ []) ∙ append-nil additional)
-    ∙ sym (primed_some c.args.self.now additional some)
+    ∙ ap (update c.args.self.now) (append-nil (input ++ []) ∙ append-nil input)
+    ∙ sym (primed_some c.args.self.now input some)
 
 pub returns-else-not-is_empty : goal.returns-else-not-is_empty
 returns-else-not-is_empty c =
-    let none : length c.args.additional.now ≡ 0 = grind (arith, nat_tests) in
-    sym (primed_none c.args.self.now c.args.additional.now none)
+    let none : length c.args.input.now ≡ 0 = grind (arith, nat_tests) in
+    sym (primed_none c.args.self.now c.args.input.now none)

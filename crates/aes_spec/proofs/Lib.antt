@@ -1,0 +1,9 @@
+pub mod EveryByte
+pub mod FieldLaws
+pub mod Linear
+pub mod InverseSteps
+pub mod States
+pub mod DecryptionUndoes
+pub mod RoundKeys
+pub mod EncryptionUndoes
+pub mod KeyStream

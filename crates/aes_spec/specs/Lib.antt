@@ -1,0 +1,4 @@
+pub mod Field
+pub mod Aes
+pub mod Key
+pub mod Gctr

@@ -1,0 +1,79 @@
+//! The bytes of a reply, in a buffer that is taken once.
+ghost use Rattle.std.specs.Prelude.{◌≡◌, ◌≤◌, ◌+◌, ◌++◌, [], length, take, drop, IfOk};
+ghost use Rattle.bits_core.specs.Shown.{holding};
+
+use std::alloc::{AllocError, Global};
+use std::marker::Model;
+
+/// A buffer of a fixed room that holds some bytes and zeros after them. Contracts see the bytes, the
+/// room and the unused part.
+#[derive(Drop)]
+pub struct Outbox {
+    buffer: Vec<u8>,
+    used: usize,
+}
+
+impl Model for Outbox {
+    ghost use Rattle.std.specs.Prelude.{◌≡◌, ◌≤◌, ◌-◌, length, take, drop};
+    ghost use Rattle.bits_core.specs.Shown.{Shown};
+    ghost use Rattle.bits_core.specs.ByteList.{zeros};
+
+    ghost Value = { Shown };
+
+    ghost view = { λ a. record { bytes = take a.used a.buffer.items; room = length a.buffer.items; unused = drop a.used a.buffer.items } };
+
+    ghost invariant = { λ a. (a.used ≤ length a.buffer.items) × (drop a.used a.buffer.items ≡ zeros (length a.buffer.items - a.used)) };
+}
+
+impl Outbox {
+    /// An empty outbox with room for `room` bytes.
+    pub fn new(alloc: Global, room: usize) -> Result<Outbox, AllocError>
+        ensures { IfOk result (λ outbox. outbox ≡ holding [] room) }
+    {
+        let buffer = vec![in alloc; 0; room]?;
+        Ok(Outbox { buffer, used: 0 })
+    }
+
+    /// The bytes that were put.
+    pub fn bytes(&self) -> &[u8]
+        ensures bytes { result.now ≡ self.now.bytes }
+        ensures within { length self.now.bytes ≤ self.now.room }
+        ensures unused_zero { self.now ≡ holding self.now.bytes self.now.room }
+    {
+        &self.buffer[..self.used]
+    }
+
+    /// How many bytes it can hold.
+    pub fn room(&self) -> usize
+        ensures { result ≡ self.now.room }
+    {
+        self.buffer.len()
+    }
+
+    /// Removes the bytes and makes the whole buffer zero.
+    pub fn clear(&mut self)
+        ensures { self.new ≡ holding [] self.old.room }
+    {
+        self.buffer.fill(0);
+        self.used = 0;
+    }
+
+    /// Appends bytes. Only a port calls it.
+    pub(crate) fn put(&mut self, piece: &[u8])
+        requires { length self.old.bytes + length piece.now ≤ self.old.room }
+        ensures { self.new ≡ holding (self.old.bytes ++ piece.now) self.old.room }
+    {
+        write_at(&mut self.buffer, self.used, piece);
+        self.used += piece.len();
+    }
+}
+
+/// Writes a piece from place `at` on.
+fn write_at(buffer: &mut [u8], at: usize, piece: &[u8])
+    requires { at + length piece.now ≤ length buffer.old }
+    ensures same_length { length buffer.new ≡ length buffer.old }
+    ensures written { take (at + length piece.now) buffer.new ≡ take at buffer.old ++ piece.now }
+    ensures rest { drop (at + length piece.now) buffer.new ≡ drop (at + length piece.now) buffer.old }
+{
+    buffer[at..at + piece.len()].copy_from_slice(piece);
+}
