@@ -6,7 +6,7 @@ use Rattle.hmac_core.proofs.Lengths.{length-hmac}
 use Rattle.hmac_core.proofs.Blocks.{IsInBlocksOf32, length-joined}
 use Rattle.drbg_core.specs.Generator.{generate, drawn, mix, update, primed, value_after}
 use Rattle.drbg_core.specs.declared.generator.Drbg.{Drbg}
-use Rattle.std.proofs.Common.{◌≡◌, ℕ, suc, ◌+◌, ◌/◌, ◌%◌, ◌<◌, List, [], ◌∷◌, ◌*◌, length, refl, ap, ◌∙◌, arith}
+use Rattle.std.proofs.Common.{◌≡◌, ℕ, suc, ◌+◌, ◌/◌, ◌%◌, ◌<◌, List, [], ◌∷◌, length, refl, ap, ◌∙◌, arith}
 use Rattle.std.proofs.lemmas.List.{length-take}
 
 -- each value is a block of 32 bytes

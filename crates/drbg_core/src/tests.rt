@@ -7,6 +7,7 @@ ghost use Rattle.std.specs.Prelude.{◌≤◌, length};
 use crate::Drbg;
 use bits_core::Alg;
 use hmac_core::{MacStream, hmac};
+use std::alloc::{AllocError, Global};
 use std::process::Abort;
 use std::test::Fail;
 
@@ -100,27 +101,33 @@ fn expect_twice(rt: &impl Abort, additional: &[u8], out: &mut [u8], want: &[u8; 
     assert_eq!(rt; check.finish_leftmost(), *want);
 }
 
+// The same, over an array.
+fn expect_array_twice<const N: usize>(rt: &impl Abort, additional: &[u8], want: &[u8; 32])
+    requires { N ≤ 65536 }
+{
+    let mut out = [0u8; N];
+    expect_twice(rt, additional, &mut out, want);
+}
+
 #[test]
 fn requests_bare(rt: HostRuntime) {
-    let mut out = [0u8; 64];
-    expect_twice(&rt, &[], &mut out[..0], &rows::TWICE_0_BARE);
-    expect_twice(&rt, &[], &mut out[..1], &rows::TWICE_1_BARE);
-    expect_twice(&rt, &[], &mut out[..31], &rows::TWICE_31_BARE);
-    expect_twice(&rt, &[], &mut out[..32], &rows::TWICE_32_BARE);
-    expect_twice(&rt, &[], &mut out[..33], &rows::TWICE_33_BARE);
-    expect_twice(&rt, &[], &mut out[..64], &rows::TWICE_64_BARE);
+    expect_array_twice::<0>(&rt, &[], &rows::TWICE_0_BARE);
+    expect_array_twice::<1>(&rt, &[], &rows::TWICE_1_BARE);
+    expect_array_twice::<31>(&rt, &[], &rows::TWICE_31_BARE);
+    expect_array_twice::<32>(&rt, &[], &rows::TWICE_32_BARE);
+    expect_array_twice::<33>(&rt, &[], &rows::TWICE_33_BARE);
+    expect_array_twice::<64>(&rt, &[], &rows::TWICE_64_BARE);
 }
 
 #[test]
 fn requests_with_input(rt: HostRuntime) {
     let additional = counting::<40>(100);
-    let mut out = [0u8; 64];
-    expect_twice(&rt, &additional, &mut out[..0], &rows::TWICE_0_WITH_INPUT);
-    expect_twice(&rt, &additional, &mut out[..1], &rows::TWICE_1_WITH_INPUT);
-    expect_twice(&rt, &additional, &mut out[..31], &rows::TWICE_31_WITH_INPUT);
-    expect_twice(&rt, &additional, &mut out[..32], &rows::TWICE_32_WITH_INPUT);
-    expect_twice(&rt, &additional, &mut out[..33], &rows::TWICE_33_WITH_INPUT);
-    expect_twice(&rt, &additional, &mut out[..64], &rows::TWICE_64_WITH_INPUT);
+    expect_array_twice::<0>(&rt, &additional, &rows::TWICE_0_WITH_INPUT);
+    expect_array_twice::<1>(&rt, &additional, &rows::TWICE_1_WITH_INPUT);
+    expect_array_twice::<31>(&rt, &additional, &rows::TWICE_31_WITH_INPUT);
+    expect_array_twice::<32>(&rt, &additional, &rows::TWICE_32_WITH_INPUT);
+    expect_array_twice::<33>(&rt, &additional, &rows::TWICE_33_WITH_INPUT);
+    expect_array_twice::<64>(&rt, &additional, &rows::TWICE_64_WITH_INPUT);
 }
 
 #[test]
@@ -136,44 +143,54 @@ fn longest_requests(rt: HostRuntime) -> Result<(), Fail> {
     Ok(())
 }
 
-// HMAC-SHA-256 in one call.
-fn mac(key: &[u8], text: &[u8]) -> [u8; 32] {
-    let mut whole = [0u8; 64];
-    hmac(Alg::Sha256, key, text, &mut whole);
+// The first half.
+fn first(whole: &[u8; 64]) -> [u8; 32] {
     let mut out = [0u8; 32];
     out.copy_from_slice(&whole[..32]);
     out
 }
 
+// HMAC-SHA-256 in one call.
+fn mac(key: &[u8], text: &[u8]) -> [u8; 32] {
+    let mut whole = [0u8; 64];
+    hmac(Alg::Sha256, key, text, &mut whole);
+    first(&whole)
+}
+
 // HMAC-SHA-256 of V, one byte and some input under K.
-fn next_key(k: &[u8; 32], v: &[u8; 32], byte: u8, input: &[u8]) -> [u8; 32]
-    requires { length input.now ≤ 48 }
-{
-    let mut text = [0u8; 81];
-    text[..32].copy_from_slice(v);
-    text[32] = byte;
-    text[33..33 + input.len()].copy_from_slice(input);
-    mac(k, &text[..33 + input.len()])
+fn next_key(
+    alloc: Global,
+    k: &[u8; 32],
+    v: &[u8; 32],
+    byte: u8,
+    input: &[u8],
+) -> Result<[u8; 32], AllocError> {
+    let mut text = Vec::new(alloc);
+    text.extend_from_slice(v)?;
+    text.push(byte)?;
+    text.extend_from_slice(input)?;
+    Ok(mac(k, &text))
 }
 
 // The known answer again, step by step with `hmac` alone.
 #[test]
-fn known_answer_step_by_step(rt: HostRuntime) {
+fn known_answer_step_by_step(rt: HostRuntime) -> Result<(), Fail> {
     let seed = counting::<48>(0);
-    let k = next_key(&[0; 32], &[1; 32], 0, &seed);
+    let k = next_key(rt.alloc(), &[0; 32], &[1; 32], 0, &seed)?;
     let v = mac(&k, &[1; 32]);
-    let k = next_key(&k, &v, 1, &seed);
+    let k = next_key(rt.alloc(), &k, &v, 1, &seed)?;
     let v = mac(&k, &v);
     assert_eq!(rt; k, rows::SEEDED_K);
     assert_eq!(rt; v, rows::SEEDED_V);
     let fresh = counting::<32>(48);
-    let k = next_key(&k, &v, 0, &fresh);
+    let k = next_key(rt.alloc(), &k, &v, 0, &fresh)?;
     let v = mac(&k, &v);
-    let k = next_key(&k, &v, 1, &fresh);
+    let k = next_key(rt.alloc(), &k, &v, 1, &fresh)?;
     let v = mac(&k, &v);
     let v = mac(&k, &v);
     assert_eq!(rt; v, rows::KNOWN_ANSWER);
-    let k = next_key(&k, &v, 0, &[]);
+    let k = next_key(rt.alloc(), &k, &v, 0, &[])?;
     assert_eq!(rt; k, rows::AFTER_KNOWN_ANSWER_K);
     assert_eq!(rt; mac(&k, &v), rows::AFTER_KNOWN_ANSWER_V);
+    Ok(())
 }

@@ -6,11 +6,13 @@ use bits_core::Alg;
 use std::process::Abort;
 use std::test::Fail;
 
-// Bytes 00, 01, 02 and so on.
-fn counting() -> [u8; 200] {
-    let mut bytes = [0u8; 200];
-    for i in 0u8..200 {
-        bytes[i as usize] = i;
+// Bytes that count up from `first`.
+fn counting<const N: usize>(first: u8) -> [u8; N] {
+    let mut bytes = [0u8; N];
+    let mut next = first;
+    for i in 0..N {
+        bytes[i] = next;
+        next = next.wrapping_add(1);
     }
     bytes
 }
@@ -29,9 +31,10 @@ fn expect_mac(rt: &impl Abort, alg: Alg, key: &[u8], text: &[u8], want: &[u8; 64
 
 // A text cut in two at each of its places, under a key that is longer than a block.
 fn expect_cuts(rt: &impl Abort, alg: Alg, want: &[u8; 64]) {
-    let text = counting();
+    let key = counting::<131>(0);
+    let text = counting::<200>(0);
     for cut in 0usize..201 {
-        let mut stream = MacStream::new(alg, &text[..131]);
+        let mut stream = MacStream::new(alg, &key);
         stream.update(&text[..cut]);
         stream.update(&text[cut..]);
         let mut out = [0xffu8; 64];
@@ -41,15 +44,15 @@ fn expect_cuts(rt: &impl Abort, alg: Alg, want: &[u8; 64]) {
 }
 
 fn expect_leftmost(rt: &impl Abort, alg: Alg, want: &[u8; 64]) {
-    let text = counting();
-    let mut stream = MacStream::new(alg, &text[..131]);
+    let text = counting::<200>(0);
+    let mut stream = MacStream::new(alg, &counting::<131>(0));
     stream.update(&text);
     assert_eq!(rt; stream.finish_leftmost().as_slice(), &want[..32]);
 }
 
 #[test]
 fn digests(rt: HostRuntime) {
-    let text = counting();
+    let text = counting::<200>(0);
     expect_hash(&rt, Alg::Sha256, &[], &rows::HASH_256_EMPTY);
     expect_hash(&rt, Alg::Sha256, b"abc", &rows::HASH_256_ABC);
     expect_hash(&rt, Alg::Sha256, &text, &rows::HASH_256_COUNTING);
@@ -64,14 +67,14 @@ fn digests(rt: HostRuntime) {
 // The cases of RFC 4231 but for the fifth, whose MAC is cut.
 fn expect_cases(rt: &impl Abort, alg: Alg, want: [&[u8; 64]; 6]) {
     let [first, second, third, fourth, sixth, seventh] = want;
-    let counting = counting();
+    let counting = counting::<25>(1);
     let sixth_text = b"Test Using Larger Than Block-Size Key - Hash Key First";
     let seventh_text =
         b"This is a test using a larger than block-size key and a larger than block-size data. The key needs to be hashed before being used by the HMAC algorithm.";
     expect_mac(rt, alg, &[0x0b; 20], b"Hi There", first);
     expect_mac(rt, alg, b"Jefe", b"what do ya want for nothing?", second);
     expect_mac(rt, alg, &[0xaa; 20], &[0xdd; 50], third);
-    expect_mac(rt, alg, &counting[1..26], &[0xcd; 50], fourth);
+    expect_mac(rt, alg, &counting, &[0xcd; 50], fourth);
     expect_mac(rt, alg, &[0xaa; 131], sixth_text, sixth);
     expect_mac(rt, alg, &[0xaa; 131], seventh_text, seventh);
 }
@@ -117,7 +120,7 @@ fn cases_of_rfc_4231_with_sha512(rt: HostRuntime) {
 
 #[test]
 fn keys_around_a_block_with_sha256(rt: HostRuntime) {
-    let text = counting();
+    let text = counting::<200>(0);
     expect_mac(&rt, Alg::Sha256, &text[..0], &text, &rows::KEY_256_0);
     expect_mac(&rt, Alg::Sha256, &text[..1], &text, &rows::KEY_256_1);
     expect_mac(&rt, Alg::Sha256, &text[..63], &text, &rows::KEY_256_63);
@@ -132,7 +135,7 @@ fn keys_around_a_block_with_sha256(rt: HostRuntime) {
 
 #[test]
 fn keys_around_a_block_with_sha384(rt: HostRuntime) {
-    let text = counting();
+    let text = counting::<200>(0);
     expect_mac(&rt, Alg::Sha384, &text[..0], &text, &rows::KEY_384_0);
     expect_mac(&rt, Alg::Sha384, &text[..1], &text, &rows::KEY_384_1);
     expect_mac(&rt, Alg::Sha384, &text[..63], &text, &rows::KEY_384_63);
@@ -147,7 +150,7 @@ fn keys_around_a_block_with_sha384(rt: HostRuntime) {
 
 #[test]
 fn keys_around_a_block_with_sha512(rt: HostRuntime) {
-    let text = counting();
+    let text = counting::<200>(0);
     expect_mac(&rt, Alg::Sha512, &text[..0], &text, &rows::KEY_512_0);
     expect_mac(&rt, Alg::Sha512, &text[..1], &text, &rows::KEY_512_1);
     expect_mac(&rt, Alg::Sha512, &text[..63], &text, &rows::KEY_512_63);
@@ -170,13 +173,12 @@ fn pieces_cut_at_every_place(rt: HostRuntime) {
 // A copy goes its own way, and an empty piece adds nothing.
 #[test]
 fn copies_of_a_stream(rt: HostRuntime) -> Result<(), Fail> {
-    let text = counting();
-    let mut stream = MacStream::new(Alg::Sha256, &text[..64]);
-    stream.update(&text[..100]);
+    let mut stream = MacStream::new(Alg::Sha256, &counting::<64>(0));
+    stream.update(&counting::<100>(0));
     let mut copy = stream.clone()?;
     copy.update(b"another text");
     stream.update(&[]);
-    stream.update(&text[100..]);
+    stream.update(&counting::<100>(100));
     let mut out = [0xffu8; 64];
     stream.finish(&mut out);
     assert_eq!(rt; out, rows::KEY_256_64);

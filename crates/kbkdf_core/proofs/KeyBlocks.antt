@@ -1,11 +1,9 @@
 -- The blocks of a derivation.
 use Rattle.bits_core.specs.declared.algorithm.Alg.TheVariants.{Sha256}
-use Rattle.hmac_core.specs.Hmac.{hmac}
 use Rattle.hmac_core.proofs.Lengths.{length-hmac}
 use Rattle.hmac_core.proofs.Blocks.{IsInBlocksOf32}
-use Rattle.kbkdf_core.specs.CounterMode.{fixed_input, key_block}
-use Rattle.std.specs.Int.{w32, to_be_bytes}
-use Rattle.std.proofs.Common.{◌≡◌, ℕ, suc, ◌+◌, ◌/◌, ◌%◌, ◌<◌, List, [], ◌∷◌, ◌++◌, append_assoc, ap, ◌∙◌, arith}
+use Rattle.kbkdf_core.specs.CounterMode.{key_block}
+use Rattle.std.proofs.Common.{◌≡◌, ℕ, ◌+◌, ◌/◌, ◌%◌, ◌<◌, List, [], ◌∷◌, ◌++◌, append_assoc, ap, ◌∙◌, arith}
 
 -- each has 32 bytes
 pub blocks_of_32 : (key fixed : List ℕ) → IsInBlocksOf32 (key_block key fixed)

@@ -1,6 +1,6 @@
 -- Key derivation in counter mode (SP 800-108 Rev. 1, 4.1), with HMAC-SHA-256, and a counter and a
 -- length of 32 bits each.
-use Rattle.std.specs.Prelude.{ℕ, ◌+◌, ◌*◌, ◌/◌, List, [], ◌∷◌, ◌++◌, take}
+use Rattle.std.specs.Prelude.{ℕ, ◌+◌, ◌*◌, ◌/◌, List, ◌∷◌, ◌++◌, take}
 use Rattle.std.specs.Int.{w32, to_be_bytes}
 use Rattle.bits_core.specs.declared.algorithm.Alg.TheVariants.{Sha256}
 use Rattle.hmac_core.specs.Blocks.{joined}

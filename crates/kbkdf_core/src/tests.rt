@@ -33,7 +33,14 @@ fn known_answer_step_by_step(rt: HostRuntime) {
     let text = b"\x00\x00\x00\x01label\x00context\x00\x00\x01\x00";
     let mut out = [0xffu8; 64];
     hmac(Alg::Sha256, &counting::<32>(), text, &mut out);
-    assert_eq!(rt; out[..32], rows::KNOWN_ANSWER[..]);
+    assert_eq!(rt; first(&out), rows::KNOWN_ANSWER);
+}
+
+// The first half.
+fn first(whole: &[u8; 64]) -> [u8; 32] {
+    let mut out = [0u8; 32];
+    out.copy_from_slice(&whole[..32]);
+    out
 }
 
 fn expect_derived(rt: &impl Abort, label: &[u8], context: &[u8], out: &mut [u8], want: &[u8; 32])
@@ -46,38 +53,28 @@ fn expect_derived(rt: &impl Abort, label: &[u8], context: &[u8], out: &mut [u8],
     assert_eq!(rt; check.finish_leftmost(), *want);
 }
 
+// The same, over an array.
+fn expect_array<const N: usize>(rt: &impl Abort, label: &[u8], context: &[u8], want: &[u8; 32])
+    requires some { 1 ≤ N }
+    requires most { N ≤ 65536 }
+{
+    let mut out = [0u8; N];
+    expect_derived(rt, label, context, &mut out, want);
+}
+
 #[test]
 fn short_material(rt: HostRuntime) {
     let label = counting::<255>();
     let mut context = label;
     context.reverse();
-    let mut out = [0u8; 33];
-    expect_derived(&rt, &[], &[], &mut out[..1], &rows::DERIVED_1_BARE);
-    expect_derived(&rt, &label, &context, &mut out[..1], &rows::DERIVED_1_LONG);
-    expect_derived(&rt, &[], &[], &mut out[..31], &rows::DERIVED_31_BARE);
-    expect_derived(
-        &rt,
-        &label,
-        &context,
-        &mut out[..31],
-        &rows::DERIVED_31_LONG,
-    );
-    expect_derived(&rt, &[], &[], &mut out[..32], &rows::DERIVED_32_BARE);
-    expect_derived(
-        &rt,
-        &label,
-        &context,
-        &mut out[..32],
-        &rows::DERIVED_32_LONG,
-    );
-    expect_derived(&rt, &[], &[], &mut out[..33], &rows::DERIVED_33_BARE);
-    expect_derived(
-        &rt,
-        &label,
-        &context,
-        &mut out[..33],
-        &rows::DERIVED_33_LONG,
-    );
+    expect_array::<1>(&rt, &[], &[], &rows::DERIVED_1_BARE);
+    expect_array::<1>(&rt, &label, &context, &rows::DERIVED_1_LONG);
+    expect_array::<31>(&rt, &[], &[], &rows::DERIVED_31_BARE);
+    expect_array::<31>(&rt, &label, &context, &rows::DERIVED_31_LONG);
+    expect_array::<32>(&rt, &[], &[], &rows::DERIVED_32_BARE);
+    expect_array::<32>(&rt, &label, &context, &rows::DERIVED_32_LONG);
+    expect_array::<33>(&rt, &[], &[], &rows::DERIVED_33_BARE);
+    expect_array::<33>(&rt, &label, &context, &rows::DERIVED_33_LONG);
 }
 
 #[test]

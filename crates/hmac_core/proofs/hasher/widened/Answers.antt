@@ -1,4 +1,4 @@
-use Rattle.std.proofs.Common.{ℕ, arith, refl}
+use Rattle.std.proofs.Common.{ℕ, arith}
 use Rattle.std.proofs.lemmas.List.{length-replicate}
 use Rattle.bits_core.proofs.ZeroPadding.{is_zero_padded, get_or-zeros}
 use Rattle.hmac_core.proofs.hasher.widened.Goals as goal

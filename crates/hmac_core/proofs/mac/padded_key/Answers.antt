@@ -1,4 +1,4 @@
-use Rattle.std.proofs.Common.{◌≡◌, ℕ, ◌<◌, ◌≤◌, List, [], take, length, ap, ◌∙◌, sym, subst, arith}
+use Rattle.std.proofs.Common.{◌≡◌, ℕ, ◌<◌, ◌≤◌, [], take, length, ap, ◌∙◌, sym, subst, arith}
 use Rattle.bits_core.specs.Algorithms.{alg_size, alg_block}
 use Rattle.bits_core.specs.ByteList.{zero_padded}
 use Rattle.hmac_core.specs.Hash.{hash}

@@ -1,4 +1,4 @@
-use Rattle.std.proofs.Common.{◌≡◌, ℕ, List, ◌+◌, ◌*◌, ◌/◌, ◌%◌, ◌<◌, get_or, length, ap, ◌∙◌, arith}
+use Rattle.std.proofs.Common.{◌≡◌, ℕ, List, ◌+◌, ◌*◌, ◌/◌, ◌%◌, get_or, length, ap, ◌∙◌, arith}
 use Rattle.hmac_core.proofs.Blocks.{filled, byte_more}
 use Rattle.kbkdf_core.specs.CounterMode.{fixed_input, kbkdf_counter, key_block}
 use Rattle.kbkdf_core.proofs.KeyBlocks.{blocks_of_32, block_stays}

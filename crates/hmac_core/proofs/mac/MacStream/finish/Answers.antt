@@ -1,9 +1,8 @@
-use Rattle.std.proofs.Common.{◌≡◌, ℕ, List, ◌++◌, take, ap, ◌∙◌, sym}
+use Rattle.std.proofs.Common.{◌≡◌, ℕ, List, ◌++◌, take, ap, ◌∙◌}
 use Rattle.bits_core.specs.Algorithms.{alg_size}
 use Rattle.bits_core.specs.ByteList.{zero_padded}
 use Rattle.hmac_core.specs.Hash.{hash}
 use Rattle.hmac_core.specs.Hmac.{hmac, inner_key, outer_key}
-use Rattle.bits_core.specs.declared.algorithm.Alg.{Alg}
 use Rattle.hmac_core.proofs.Lengths.{take-padded_digest}
 use Rattle.hmac_core.proofs.mac.MacStream.finish.Goals as goal
 

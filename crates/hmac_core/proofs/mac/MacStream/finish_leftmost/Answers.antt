@@ -1,4 +1,4 @@
-use Rattle.std.proofs.Common.{◌≡◌, List, ℕ, take, ap, ◌∙◌}
+use Rattle.std.proofs.Common.{take, ap, ◌∙◌}
 use Rattle.hmac_core.proofs.Lengths.{take-padded_mac}
 use Rattle.hmac_core.proofs.mac.MacStream.finish_leftmost.Goals as goal
 

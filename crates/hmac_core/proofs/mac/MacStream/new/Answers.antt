@@ -1,6 +1,5 @@
-use Rattle.std.proofs.Common.{◌≡◌, ℕ, List, [], ◌++◌, map, bit_xor, subst, ap, ◌∙◌, sym}
+use Rattle.std.proofs.Common.{ℕ, List, map, bit_xor, subst, ap, ◌∙◌, sym}
 use Rattle.std.proofs.lemmas.List.{append-nil}
-use Rattle.bits_core.specs.Algorithms.{alg_block}
 use Rattle.hmac_core.specs.Hash.{HoldsMessage}
 use Rattle.hmac_core.specs.Hmac.{inner_key, outer_key}
 use Rattle.hmac_core.proofs.mac.MacStream.new.Goals as goal
