@@ -4,7 +4,7 @@ use Rattle.hmac_core.specs.Blocks.{joined}
 use Rattle.hmac_core.specs.Hmac.{hmac}
 use Rattle.hmac_core.proofs.Lengths.{length-hmac}
 use Rattle.hmac_core.proofs.Blocks.{IsInBlocksOf32, length-joined}
-use Rattle.drbg_core.specs.Generator.{generate, drawn, mix, update, primed, value_after}
+use Rattle.drbg_core.specs.Generator.{generate, drawn, instantiate, mix, reseed, update, primed, value_after}
 use Rattle.drbg_core.specs.declared.generator.Drbg.{Drbg}
 use Rattle.std.proofs.Common.{◌≡◌, ℕ, suc, ◌+◌, ◌/◌, ◌%◌, ◌<◌, List, [], ◌∷◌, length, refl, ap, ◌∙◌, arith}
 use Rattle.std.proofs.lemmas.List.{length-take}
@@ -68,3 +68,19 @@ length-bytes g additional n =
     let p : Drbg = primed g additional in
     let blocks = (n + 31) / 32 in
     length-take n (joined (value_after p.k p.v) blocks) ∙ omega (arith, length-joined (value_after p.k p.v) (values_of_32 p.k p.v) blocks)
+
+-- a seed sets the counter to 1, and a request counts itself
+pub counter-instantiate : (entropy nonce personal : List ℕ) → (instantiate entropy nonce personal).counter ≡ 1
+unfolding instantiate
+counter-instantiate entropy nonce personal = counter-update _ _
+
+pub counter-reseed : (g : Drbg) (entropy additional : List ℕ) → (reseed g entropy additional).counter ≡ 1
+unfolding reseed
+counter-reseed g entropy additional = counter-update _ _
+
+pub counter-generate : (g : Drbg) (additional : List ℕ) (n : ℕ) → (generate g additional n).after.counter ≡ g.counter + 1
+unfolding generate drawn
+counter-generate g additional n =
+    let p : Drbg = primed g additional in
+    let drew : Drbg = record p { v = value_after p.k p.v ((n + 31) / 32) } in
+    ap (λ (m : ℕ). m + 1) (counter-update drew additional ∙ counter-primed g additional)
