@@ -1,27 +1,25 @@
 #!/usr/bin/env bash
 # HMAC-SHA-256 over 64 KiB, a request for 65,536 random bytes and a derivation of 32 bytes on the proved
-# build, beside Python's hmac over OpenSSL and `openssl speed`, in one run. Each function is timed from
-# outside at two counts, and the difference is taken.
+# build, beside Python's hmac over OpenSSL and `openssl speed`, in one run. Each function's processor time
+# is taken from outside at two counts, and the difference counts.
 set -eu
 cd "$(dirname "$0")/../crates/hmac_bench"
 [ -x out/hmac_bench ] || rt run -- hmac 1 >/dev/null 2>&1
 
-# nanoseconds of a run of FUNCTION COUNT, the least of three
-nanoseconds() {
-    local best= start end taken
-    for _ in 1 2 3; do
-        start=$(date +%s%N)
-        ./out/hmac_bench "$@" >/dev/null
-        end=$(date +%s%N)
-        taken=$((end - start))
-        if [ -z "$best" ] || [ "$taken" -lt "$best" ]; then best=$taken; fi
+# milliseconds of processor time of a run of FUNCTION COUNT, the least of five
+milliseconds() {
+    local TIMEFORMAT=%3U best= spent
+    for _ in 1 2 3 4 5; do
+        spent=$({ time ./out/hmac_bench "$@" >/dev/null; } 2>&1)
+        spent=$((10#${spent/./}))
+        if [ -z "$best" ] || [ "$spent" -lt "$best" ]; then best=$spent; fi
     done
     echo "$best"
 }
 
-# nanoseconds of one turn of FUNCTION, between COUNT and three times COUNT
+# nanoseconds of one turn of FUNCTION, between COUNT and five times COUNT
 turn() {
-    echo $((($(nanoseconds "$1" $((3 * $2))) - $(nanoseconds "$1" "$2")) / (2 * $2)))
+    echo $((($(milliseconds "$1" $((5 * $2))) - $(milliseconds "$1" "$2")) * 1000000 / (4 * $2)))
 }
 
 # The same three by Python's hmac, whose SHA-256 is OpenSSL's.
@@ -63,10 +61,10 @@ def derivations(count):
 work = {"hmac": macs, "generate": requests, "derive": derivations}[sys.argv[1]]
 count = int(sys.argv[2])
 best = None
-for _ in range(3):
-    start = time.perf_counter_ns()
+for _ in range(5):
+    start = time.process_time_ns()
     work(count)
-    taken = (time.perf_counter_ns() - start) // count
+    taken = (time.process_time_ns() - start) // count
     best = taken if best is None else min(best, taken)
 print(best)
 PEER
@@ -80,8 +78,11 @@ row() {
 
 grep -m1 'model name' /proc/cpuinfo | sed 's/.*: //'
 openssl version
-row 'HMAC-SHA-256 of 64 KiB' 65536 "$(turn hmac 200)" "$(peer hmac 200)"
-row 'request of 65,536 bytes' 65536 "$(turn generate 20)" "$(peer generate 20)"
-row 'derivation of 32 bytes' 32 "$(turn derive 20000)" "$(peer derive 20000)"
-openssl speed -hmac sha256 -bytes 65536 -seconds 1 2>/dev/null |
-    awk '/^hmac/ { printf "openssl speed -hmac sha256: %.1f MB/s\n", $2 / 1000 }'
+row 'HMAC-SHA-256 of 64 KiB' 65536 "$(turn hmac 400)" "$(peer hmac 200)"
+row 'request of 65,536 bytes' 65536 "$(turn generate 100)" "$(peer generate 20)"
+row 'derivation of 32 bytes' 32 "$(turn derive 100000)" "$(peer derive 20000)"
+# A request is 2,048 HMACs of 32 bytes under one key, as `openssl speed` makes them at 32 bytes.
+for length in 65536 32; do
+    openssl speed -hmac sha256 -bytes "$length" -seconds 1 2>/dev/null |
+        awk -v length_="$length" '/^hmac/ { printf "openssl speed -hmac sha256, %5d bytes: %8.1f MB/s\n", length_, $2 / 1000 }'
+done
