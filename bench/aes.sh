@@ -1,11 +1,11 @@
 #!/usr/bin/env bash
-# AES in counter mode over 64 KiB, in MB/s for each length of key: the proved program crates/aes_speed,
+# AES in counter mode over 64 KiB, in MB/s for each length of key: the proved program crates/aes_bench,
 # beside OpenSSL with its AES instructions off and on, in one run on this machine.
 # The program's processor time is taken from outside at two counts, and the difference counts.
 set -eu
 cd "$(dirname "$0")/.."
-(cd crates/aes_speed && rt run -- 16 1 >/dev/null)
-program=crates/aes_speed/out/aes_speed
+(cd crates/aes_bench && rt run -- 16 1 >/dev/null)
+program=crates/aes_bench/out/aes_bench
 
 # milliseconds KEYBYTES COUNT: of processor time
 milliseconds() {

@@ -43,7 +43,7 @@ fn checksum(bytes: &[u8]) -> u32 {
 
 fn main(rt: HostRuntime) -> Result<()> {
     let words: Vec<String> = env::args(&rt)?.collect(rt.alloc())?;
-    ensure!(words.len() == 3, "usage: aes_speed KEYBYTES COUNT");
+    ensure!(words.len() == 3, "usage: aes_bench KEYBYTES COUNT");
     let key_bytes: usize = words[1].parse().context("the bytes of the key")?;
     let count: u32 = words[2].parse().context("how often")?;
     ensure!(
