@@ -13,8 +13,8 @@ use Rattle.module_top.specs.Desk.{Desk, Served}
 use Rattle.module_top.specs.Serving.{Streams, Answered, Serves, IsAllOf, stream_max}
 
 -- what was served from the stream's beginning is the run over it
-pub answered_of : {a b : Desk} {taken rest : List ℕ} (left now : Option (List ℕ)) (s : MachineState) → Represents a.module' s → Served a [] taken rest b → BeginsNoCommand rest
-    → Answered s taken rest b.module' (record { left = left; gained = a.gained }) (record { left = now; gained = b.gained })
+pub answered_of : {a b : Desk} {taken rest : List ℕ} (left now : Option (List ℕ)) (s : MachineState) → Represents a.kept s → Served a [] taken rest b → BeginsNoCommand rest
+    → Answered s taken rest b.kept (record { left = left; gained = a.gained }) (record { left = now; gained = b.gained })
 answered_of {a} {b} {taken} {rest} left now s represents served unfinished =
     let did = served.each s represents in
     record {

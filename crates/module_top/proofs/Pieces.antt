@@ -47,8 +47,8 @@ fault_served {start} {desk} {old} {mid} {new} {piece} {done} way took = record {
 -- a command became whole, and was done and answered
 pub command_served : {start desk next : Desk} {old mid new : Fragment} {piece : List ℕ} {done count : ℕ} {command : CommandFrame} → Underway start old piece done mid desk
     → Takes mid (drop done piece) (fed.Whole count) new → IsCommandFrame command new.bytes
-    → ((s : MachineState) → Represents desk.module' s → Represents next.module' (step s command).machine)
-    → ((s : MachineState) → Represents desk.module' s → Gains desk.gained (reply_bytes s command) next.gained)
+    → ((s : MachineState) → Represents desk.kept s → Represents next.kept (step s command).machine)
+    → ((s : MachineState) → Represents desk.kept s → Gains desk.gained (reply_bytes s command) next.gained)
     → Served start old.bytes (take (done + count) piece) [] next
 command_served {start} {desk} {next} {old} {mid} {new} {piece} {done} {count} {command} way took frame steps gains =
     let bytes : new.bytes ≡ mid.bytes ++ take count (drop done piece) = ap (λ (f : Fragment). f.bytes) took.1 in
@@ -66,8 +66,8 @@ command_served {start} {desk} {next} {old} {mid} {new} {piece} {done} {count} {c
 -- a command became whole and was done, and a part of its reply was written
 pub command_cut : {start desk next : Desk} {old mid new : Fragment} {piece : List ℕ} {done count : ℕ} {command : CommandFrame} → Underway start old piece done mid desk
     → Takes mid (drop done piece) (fed.Whole count) new → IsCommandFrame command new.bytes
-    → ((s : MachineState) → Represents desk.module' s → Represents next.module' (step s command).machine)
-    → ((s : MachineState) → Represents desk.module' s → (k : ℕ) × (k < length (reply_bytes s command)) × Gains desk.gained (take k (reply_bytes s command)) next.gained)
+    → ((s : MachineState) → Represents desk.kept s → Represents next.kept (step s command).machine)
+    → ((s : MachineState) → Represents desk.kept s → (k : ℕ) × (k < length (reply_bytes s command)) × Gains desk.gained (take k (reply_bytes s command)) next.gained)
     → CutShort start old.bytes piece next
 command_cut {start} {desk} {next} {old} {mid} {new} {piece} {done} {count} {command} way took frame steps part =
     let bytes : new.bytes ≡ mid.bytes ++ take count (drop done piece) = ap (λ (f : Fragment). f.bytes) took.1 in

@@ -12,7 +12,7 @@ use Rattle.module_top.specs.Run.{Ran, run_commands, reply_bytes}
 
 -- what serving works on: the module, and what the sink gained
 pub record Desk : Type 0 where
-  pub module' : Kept
+  pub kept : Kept
   pub gained : Option (List ℕ)
 
 -- From s, with bytes held, a piece leads to t and to other bytes held, and is answered by out.
@@ -40,13 +40,13 @@ pub record Broke (s : MachineState) (held piece : List ℕ) (t : MachineState) (
 
 -- with bytes held a piece was served, by the machine's definition, and other bytes are held
 pub record Served (before : Desk) (held piece rest : List ℕ) (after : Desk) : Type 0 where
-  pub each : (s : MachineState) → Represents before.module' s →
-      (t : MachineState) × (out : List ℕ) × Represents after.module' t × Gains before.gained out after.gained × Went s held piece t rest out
+  pub each : (s : MachineState) → Represents before.kept s →
+      (t : MachineState) × (out : List ℕ) × Represents after.kept t × Gains before.gained out after.gained × Went s held piece t rest out
 
 -- with bytes held a piece was served up to a failed write
 pub record CutShort (before : Desk) (held piece : List ℕ) (after : Desk) : Type 0 where
-  pub each : (s : MachineState) → Represents before.module' s →
-      (t : MachineState) × (out : List ℕ) × Represents after.module' t × Gains before.gained out after.gained × Broke s held piece t out
+  pub each : (s : MachineState) → Represents before.kept s →
+      (t : MachineState) × (out : List ℕ) × Represents after.kept t × Gains before.gained out after.gained × Broke s held piece t out
 
 -- all of a piece was served, and a frame may go on with the bytes held then
 pub record ServedAll (before : Desk) (old : Fragment) (piece : List ℕ) (new : Fragment) (after : Desk) : Type 0 where

@@ -34,10 +34,10 @@ pub fn answer<K: Sink>(
     reply: &mut Reply,
     replies: &mut K,
 ) -> Result<(), Failed>
-    ensures step { (s : MachineState) → Represents module.old s → Represents module.new (step s command.now).machine }
-    ensures whole { OnOk result ((s : MachineState) → Represents module.old s →
+    ensures step { (s : MachineState) → Represents «module».old s → Represents «module».new (step s command.now).machine }
+    ensures whole { OnOk result ((s : MachineState) → Represents «module».old s →
         Gains (K.gained replies.old) (reply_bytes s command.now) (K.gained replies.new)) }
-    ensures part { OnErr result ((s : MachineState) → Represents module.old s → (k : ℕ) × (k < length (reply_bytes s command.now))
+    ensures part { OnErr result ((s : MachineState) → Represents «module».old s → (k : ℕ) × (k < length (reply_bytes s command.now))
         × Gains (K.gained replies.old) (take k (reply_bytes s command.now)) (K.gained replies.new)) }
     ensures rose { OnErr result (Rose (K.faults replies.old) (K.faults replies.new)) }
     ensures steady { OnOk result (K.faults replies.new ≡ K.faults replies.old) }
@@ -72,12 +72,12 @@ pub fn serve_piece<K: Sink>(
     requires sound { frames.old.broken ≡ false }
     requires partial { IsPartial frames.old.bytes }
     requires short { frames.old.offset + length frames.old.bytes + length piece.now ≤ 2 ^ 63 }
-    ensures all { result ≡ Served.All → ServedAll (record { module' = module.old; gained = K.gained replies.old })
-        frames.old piece.now frames.new (record { module' = module.new; gained = K.gained replies.new }) }
-    ensures fault { result ≡ Served.BadFrame → ServedToFault (record { module' = module.old; gained = K.gained replies.old })
-        frames.old.bytes piece.now (record { module' = module.new; gained = K.gained replies.new }) }
-    ensures write_fault { result ≡ Served.WriteFault → CutShort (record { module' = module.old; gained = K.gained replies.old })
-        frames.old.bytes piece.now (record { module' = module.new; gained = K.gained replies.new }) }
+    ensures all { result ≡ Served.All → ServedAll (record { kept = «module».old; gained = K.gained replies.old })
+        frames.old piece.now frames.new (record { kept = «module».new; gained = K.gained replies.new }) }
+    ensures fault { result ≡ Served.BadFrame → ServedToFault (record { kept = «module».old; gained = K.gained replies.old })
+        frames.old.bytes piece.now (record { kept = «module».new; gained = K.gained replies.new }) }
+    ensures write_fault { result ≡ Served.WriteFault → CutShort (record { kept = «module».old; gained = K.gained replies.old })
+        frames.old.bytes piece.now (record { kept = «module».new; gained = K.gained replies.new }) }
     ensures rose { result ≡ Served.WriteFault → Rose (K.faults replies.old) (K.faults replies.new) }
     ensures steady { result ≢ Served.WriteFault → K.faults replies.new ≡ K.faults replies.old }
 {

@@ -60,7 +60,7 @@ fn serve_stream<S: Source, K: Sink>(
 ) -> Ended
     requires new { frames.old ≡ new_fragment }
     requires chunk { 0 < length chunk.old }
-    ensures served { (s : MachineState) → Represents module.old s → Serves result s module.new
+    ensures served { (s : MachineState) → Represents «module».old s → Serves result s «module».new
         (record { left = S.left commands.old; gained = K.gained replies.old })
         (record { left = S.left commands.new; gained = K.gained replies.new }) }
     ensures read_fault { result ≡ Ended.ReadFault → Rose (S.faults commands.old) (S.faults commands.new) }
@@ -113,7 +113,7 @@ pub fn serve<S: Source, K: Sink>(
 ) -> Ended
     requires new { frames.old ≡ new_fragment }
     requires chunk { 0 < length chunk.old }
-    ensures served { (s : MachineState) → Represents module.old s → Serves result s module.new
+    ensures served { (s : MachineState) → Represents «module».old s → Serves result s «module».new
         (record { left = S.left commands.old; gained = K.gained replies.old })
         (record { left = S.left commands.new; gained = K.gained replies.new }) }
 

@@ -34,7 +34,7 @@ impl Model for Module {
 impl Module {
     /// A module that isn't powered. It takes no memory as long as it has no slots.
     pub fn open(_alloc: Global) -> Result<Module, AllocError>
-        ensures { IfOk result (λ module'. Represents module' initial_state) }
+        ensures { IfOk result (λ opened. Represents opened initial_state) }
     {
         Ok(Module {
             state: State::Off,

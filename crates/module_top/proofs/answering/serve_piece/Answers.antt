@@ -19,8 +19,8 @@ pub returns-in-More-clause-all : goal.returns-in-More-clause-all
 returns-in-More-clause-all g c _ =
     let i = c.loop-done.invariant in
     let took = rw (take_rest c.args.piece.now c.loop-done.done) at (c.in-More.ensures.before_fault i.sound) in
-    let way : Underway (record { module' = c.args.module.now; gained = g.K.Sink.gained c.args.replies.now }) c.args.frames.now c.args.piece.now c.loop-done.done c.loop-done.frames
-    (record { module' = c.loop-done.module; gained = g.K.Sink.gained c.loop-done.replies }) =
+    let way : Underway (record { kept = c.args.module.now; gained = g.K.Sink.gained c.args.replies.now }) c.args.frames.now c.args.piece.now c.loop-done.done c.loop-done.frames
+    (record { kept = c.loop-done.module; gained = g.K.Sink.gained c.loop-done.replies }) =
     record { within = i.within; served = i.served; partial = i.partial; sound = i.sound; place = i.place } in
     all_served way took
 
@@ -28,8 +28,8 @@ pub returns-in-BadFrame-clause-fault : goal.returns-in-BadFrame-clause-fault
 returns-in-BadFrame-clause-fault g c _ =
     let i = c.loop-done.invariant in
     let took = rw (take_rest c.args.piece.now c.loop-done.done) at (c.in-BadFrame.ensures.before_fault i.sound) in
-    let way : Underway (record { module' = c.args.module.now; gained = g.K.Sink.gained c.args.replies.now }) c.args.frames.now c.args.piece.now c.loop-done.done c.loop-done.frames
-    (record { module' = c.loop-done.module; gained = g.K.Sink.gained c.loop-done.replies }) =
+    let way : Underway (record { kept = c.args.module.now; gained = g.K.Sink.gained c.args.replies.now }) c.args.frames.now c.args.piece.now c.loop-done.done c.loop-done.frames
+    (record { kept = c.loop-done.module; gained = g.K.Sink.gained c.loop-done.replies }) =
     record { within = i.within; served = i.served; partial = i.partial; sound = i.sound; place = i.place } in
     fault_served {new = c.feed.new.self} way took
 
@@ -37,18 +37,18 @@ pub returns-in-Err-clause-write_fault : goal.returns-in-Err-clause-write_fault
 returns-in-Err-clause-write_fault g c _ =
     let i = c.loop-done.invariant in
     let took = rw (take_rest c.args.piece.now c.loop-done.done) at (c.in-Whole.ensures.before_fault i.sound) in
-    let way : Underway (record { module' = c.args.module.now; gained = g.K.Sink.gained c.args.replies.now }) c.args.frames.now c.args.piece.now c.loop-done.done c.loop-done.frames
-    (record { module' = c.loop-done.module; gained = g.K.Sink.gained c.loop-done.replies }) =
+    let way : Underway (record { kept = c.args.module.now; gained = g.K.Sink.gained c.args.replies.now }) c.args.frames.now c.args.piece.now c.loop-done.done c.loop-done.frames
+    (record { kept = c.loop-done.module; gained = g.K.Sink.gained c.loop-done.replies }) =
     record { within = i.within; served = i.served; partial = i.partial; sound = i.sound; place = i.place } in
-    command_cut {next = record { module' = c.answer.new.module; gained = g.K.Sink.gained c.answer.new.replies }} {new = c.feed.new.self} {command = c.command.result.now}
+    command_cut {next = record { kept = c.answer.new.module; gained = g.K.Sink.gained c.answer.new.replies }} {new = c.feed.new.self} {command = c.command.result.now}
     way took c.command.ensures c.in-Err.ensures.step c.in-Err.ensures.part
 
 pub loop-done-preserved : goal.loop-done-preserved
 loop-done-preserved g c =
     let i = c.loop-done.invariant in
     let took = rw (take_rest c.args.piece.now c.loop-done.done) at (c.in-Whole.ensures.before_fault i.sound) in
-    let way : Underway (record { module' = c.args.module.now; gained = g.K.Sink.gained c.args.replies.now }) c.args.frames.now c.args.piece.now c.loop-done.done c.loop-done.frames
-    (record { module' = c.loop-done.module; gained = g.K.Sink.gained c.loop-done.replies }) =
+    let way : Underway (record { kept = c.args.module.now; gained = g.K.Sink.gained c.args.replies.now }) c.args.frames.now c.args.piece.now c.loop-done.done c.loop-done.frames
+    (record { kept = c.loop-done.module; gained = g.K.Sink.gained c.loop-done.replies }) =
     record { within = i.within; served = i.served; partial = i.partial; sound = i.sound; place = i.place } in
     let bytes : c.feed.new.self.bytes ≡ c.loop-done.frames.bytes ++ take c.in-Whole.count (drop c.loop-done.done c.args.piece.now) = ap (λ (f : Fragment). f.bytes) took.1 in
     let offset : c.feed.new.self.offset ≡ c.loop-done.frames.offset = ap (λ (f : Fragment). f.offset) took.1 in
@@ -56,7 +56,7 @@ loop-done-preserved g c =
     let moved : c.clear.new.self.offset ≡ c.feed.new.self.offset + length c.feed.new.self.bytes = ap (λ (f : Fragment). f.offset) c.clear.ensures.cleared in
     record {
       within = omega (arith, took.0, length-drop c.loop-done.done c.args.piece.now);
-      served = rw none (command_served {next = record { module' = c.answer.new.module; gained = g.K.Sink.gained c.answer.new.replies }} {new = c.feed.new.self} {command = c.command.result.now}
+      served = rw none (command_served {next = record { kept = c.answer.new.module; gained = g.K.Sink.gained c.answer.new.replies }} {new = c.feed.new.self} {command = c.command.result.now}
           way took c.command.ensures c.in-Ok.ensures.step c.in-Ok.ensures.whole);
       partial = c.clear.ensures.partial;
       sound = ap (λ (f : Fragment). f.broken) c.clear.ensures.cleared ∙ ap (λ (f : Fragment). f.broken) took.1 ∙ i.sound;

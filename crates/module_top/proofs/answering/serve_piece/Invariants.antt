@@ -6,8 +6,8 @@ use Rattle.module_top.proofs.answering.serve_piece.Given as goal
 abbrev pub invariant-loop-done : goal.invariant-loop-done
 invariant-loop-done g l = record {
   within : l.done ≤ length l.piece;
-  served : Served (record { module' = l.fn.module; gained = g.K.Sink.gained l.fn.replies }) l.fn.frames.bytes (take l.done l.piece)
-      l.frames.bytes (record { module' = l.module; gained = g.K.Sink.gained l.replies });
+  served : Served (record { kept = l.fn.module; gained = g.K.Sink.gained l.fn.replies }) l.fn.frames.bytes (take l.done l.piece)
+      l.frames.bytes (record { kept = l.module; gained = g.K.Sink.gained l.replies });
   partial : IsPartial l.frames.bytes;
   sound : l.frames.broken ≡ false;
   place : l.frames.offset + length l.frames.bytes ≡ l.fn.frames.offset + length l.fn.frames.bytes + l.done;
