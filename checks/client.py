@@ -1,0 +1,324 @@
+"""Plays a client against the program over real pipes, and asserts exact bytes and exit statuses.
+
+usage: client.py PROGRAM LAUNCHER. Each talk with the program has a deadline. What is expected is written out here.
+"""
+import os
+import select
+import signal
+import subprocess
+import sys
+import time
+
+SECONDS = 30
+
+POWER_ON_3 = "c50101000000000400000003"
+SHOW_STATUS = "c501040000000000"
+RESET = "c501070000000000"
+
+POWERED_ON = "5c0101000100000000000000000000000000000000000000"
+SHOWN_3 = "5c0104000100000000000000000000030000000000000000"
+SHOWN_OFF = "5c0104000000000000000000000000000000000000000000"
+WAS_RESET = "5c0107000100000000000000000000000000000000000000"
+
+TALK = [(POWER_ON_3, POWERED_ON), (SHOW_STATUS, SHOWN_3), (RESET, WAS_RESET)]
+COMMANDS = "".join(command for command, _ in TALK)
+REPLIES = "".join(reply for _, reply in TALK)
+
+USAGE = b"usage: serve\n"
+BAD_FRAME = b"bad frame\n"
+TRUNCATED = b"truncated frame\n"
+READ_FAILED = b"read failed\n"
+WRITE_FAILED = b"write failed\n"
+
+PROGRAM, LAUNCHER = map(os.path.abspath, sys.argv[1:])
+
+
+class Wrong(Exception):
+    """The program did something else than expected."""
+
+
+def too_late(*_):
+    raise Wrong(f"it did not come to an end within {SECONDS} seconds")
+
+
+def shown(bytes_or_text):
+    return bytes_or_text.hex() if isinstance(bytes_or_text, bytes) and len(bytes_or_text) % 24 == 0 else repr(bytes_or_text)
+
+
+def expect(what, got, wanted):
+    if got != wanted:
+        raise Wrong(f"{what}: {shown(got)}\n    in place of {shown(wanted)}")
+
+
+class Talk:
+    """A run of the program with pipes to its standard input, output and error, and with a deadline."""
+
+    def __init__(self, words=("serve",), program=None, **how):
+        pipes = {"stdin": subprocess.PIPE, "stdout": subprocess.PIPE, "stderr": subprocess.PIPE}
+        self.ran = subprocess.Popen([program or PROGRAM, *words], bufsize=0, **{**pipes, **how})
+
+    def __enter__(self):
+        signal.alarm(SECONDS)
+        return self
+
+    def __exit__(self, *_):
+        signal.alarm(0)
+        self.ran.kill()
+        self.ran.wait()
+        for it in (self.ran.stdin, self.ran.stdout, self.ran.stderr):
+            if it:
+                it.close()
+
+    def send(self, digits):
+        self.ran.stdin.write(bytes.fromhex(digits))
+
+    def is_silent(self, seconds):
+        """Whether no byte of a reply comes for so long."""
+        return not select.select([self.ran.stdout], [], [], seconds)[0]
+
+    def receive(self, count):
+        """Reads so many bytes, or those that come before the output ends; standard input stays open."""
+        got = b""
+        while len(got) < count:
+            piece = os.read(self.ran.stdout.fileno(), count - len(got))
+            if not piece:
+                break
+            got += piece
+        return got
+
+    def ask(self, command, reply):
+        """Sends a command, and expects its reply while standard input stays open."""
+        self.send(command)
+        expect(f"reply to {command}", self.receive(24), bytes.fromhex(reply))
+
+    def close_output(self):
+        self.ran.stdout.close()
+        self.ran.stdout = None
+
+    def ends(self, status, text, replies="", last=""):
+        """Sends the last bytes, ends the input, and expects the rest of the output, the text and the status."""
+        written, said = self.ran.communicate(bytes.fromhex(last) or None)
+        if written is not None:
+            expect("written", written, bytes.fromhex(replies))
+        expect("standard error", said, text)
+        expect("exit status", self.ran.returncode, status)
+
+    def ends_by_itself(self, status, text, replies=""):
+        """Expects the end of the output and of the program while standard input stays open."""
+        expect("written", self.receive(1 << 20), bytes.fromhex(replies))
+        self.ran.wait()
+        self.ends(status, text)
+
+
+def answers(commands, replies, status=0, text=b""):
+    """The commands in one piece, and then the end of the input."""
+    with Talk() as talk:
+        talk.ends(status, text, replies, last=commands)
+
+
+def one_frame_and_wait():
+    with Talk() as talk:
+        for command, reply in TALK:
+            talk.ask(command, reply)
+        if not talk.is_silent(0.1):
+            raise Wrong("it wrote more than its replies")
+        talk.ends(0, b"")
+
+
+def one_byte_at_a_time():
+    with Talk() as talk:
+        for command, reply in TALK:
+            for at in range(0, len(command) - 2, 2):
+                talk.send(command[at : at + 2])
+                time.sleep(0.002)
+            if not talk.is_silent(0.05):
+                raise Wrong(f"it answered before the last byte of {command}")
+            talk.ask(command[-2:], reply)
+        talk.ends(0, b"")
+
+
+def in_two_pieces():
+    for at in range(2, len(COMMANDS), 2):
+        with Talk() as talk:
+            talk.send(COMMANDS[:at])
+            time.sleep(0.005)
+            talk.send(COMMANDS[at:])
+            talk.ends(0, b"", REPLIES)
+
+
+def in_one_piece():
+    answers("", "")
+    answers(COMMANDS, REPLIES)
+    answers(SHOW_STATUS, SHOWN_OFF)
+
+
+def many_frames():
+    answers(SHOW_STATUS * 20_000, SHOWN_OFF * 20_000)
+
+
+def first_refusal_decides():
+    rows = [
+        # an unknown service, before the state and the body
+        ("c501020000000000", "5c0102010000000000000000000000000000000000000000"),
+        ("c5017e0000000001ff", "5c017e010000000000000000000000000000000000000000"),
+        ("c501000000000000", "5c0100010000000000000000000000000000000000000000"),
+        ("c501ff0000000000", "5c01ff010000000000000000000000000000000000000000"),
+        # Reset in Off, with a good and with a bad body
+        ("c501070000000000", "5c0107020000000000000000000000000000000000000000"),
+        ("c50107000000000100", "5c0107020000000000000000000000000000000000000000"),
+        # PowerOn with no body, with 3 and 5 bytes, and with a period of 1,000,001
+        ("c501010000000000", "5c0101030000000000000000000000000000000000000000"),
+        ("c501010000000003000003", "5c0101030000000000000000000000000000000000000000"),
+        ("c5010100000000050000000300", "5c0101030000000000000000000000000000000000000000"),
+        ("c501010000000004000f4241", "5c0101030000000000000000000000000000000000000000"),
+        # ShowStatus with a body, and that nothing has changed
+        ("c50104000000000100", "5c0104030000000000000000000000000000000000000000"),
+        ("c501040000000000", "5c0104000000000000000000000000000000000000000000"),
+        # PowerOn with the largest period
+        ("c501010000000004000f4240", "5c0101000100000000000000000000000000000000000000"),
+        ("c501040000000000", "5c0104000100000000000000000f42400000000000000000"),
+        # PowerOn again, with a good and with a bad body
+        ("c50101000000000400000003", "5c0101020100000000000000000000000000000000000000"),
+        ("c501010000000000", "5c0101020100000000000000000000000000000000000000"),
+        # Reset with a body, and that the period stays
+        ("c50107000000000100", "5c0107030100000000000000000000000000000000000000"),
+        ("c501070000000000", "5c0107000100000000000000000000000000000000000000"),
+        ("c501040000000000", "5c0104000100000000000000000f42400000000000000000"),
+    ]
+    with Talk() as talk:
+        for command, reply in rows:
+            talk.ask(command, reply)
+        talk.ends(0, b"")
+
+
+def longest_body():
+    answers("c501040000010040" + "00" * 65_600 + SHOW_STATUS, "5c0104030000000000000000000000000000000000000000" + SHOWN_OFF)
+
+
+def bad_frames():
+    wrong = [
+        "00",
+        "5c",
+        "c4",
+        "ff",
+        "c500",
+        "c502",
+        "c5010101",
+        "c5010480",
+        "c501040000010041",  # a body of 65,601 bytes
+        "c501040001000000",
+        "c5010400ffffffff",
+    ]
+    for bytes_so_far in wrong:
+        # as soon as the byte is there, with the input open
+        with Talk() as talk:
+            talk.send(bytes_so_far)
+            talk.ends_by_itself(3, BAD_FRAME)
+        with Talk() as talk:
+            talk.send(POWER_ON_3 + SHOW_STATUS + bytes_so_far)
+            talk.ends_by_itself(3, BAD_FRAME, POWERED_ON + SHOWN_3)
+        # what comes after it is no command
+        answers(SHOW_STATUS + bytes_so_far + SHOW_STATUS, SHOWN_OFF, 3, BAD_FRAME)
+
+
+def truncated_frames():
+    for at in range(2, len(POWER_ON_3), 2):
+        answers(POWER_ON_3[:at], "", 4, TRUNCATED)
+        answers(SHOW_STATUS * 2 + POWER_ON_3[:at], SHOWN_OFF * 2, 4, TRUNCATED)
+    answers(COMMANDS + SHOW_STATUS[:-2], REPLIES, 4, TRUNCATED)
+    answers("c501040000010040" + "00" * 65_599, "", 4, TRUNCATED)
+
+
+def other_words():
+    for words in [[], [""], ["Serve"], ["serve "], ["serv"], ["serve", ""], ["serve", "serve"], ["--help"], ["-"], ["demo"], [b"\xff"], ["serve", b"\xff"]]:
+        with Talk(words) as talk:
+            talk.ends_by_itself(2, USAGE)
+
+
+def reader_gone():
+    # with SIGPIPE as a shell leaves it, and ignored, as Python has it
+    for restores in (True, False):
+        with Talk(restore_signals=restores) as talk:
+            talk.close_output()
+            talk.send(SHOW_STATUS)
+            talk.ends(6, WRITE_FAILED)
+        with Talk(restore_signals=restores) as talk:
+            talk.ask(POWER_ON_3, POWERED_ON)
+            talk.close_output()
+            talk.send(SHOW_STATUS)
+            talk.ends(6, WRITE_FAILED)
+
+
+def output_closed():
+    with Talk(stdout=None, preexec_fn=lambda: os.close(1)) as talk:
+        talk.send(SHOW_STATUS)
+        talk.ends(6, WRITE_FAILED)
+
+
+def output_full():
+    if not os.path.exists("/dev/full"):
+        print("client: no /dev/full here, so a full output is not tried")
+        return
+    with open("/dev/full", "wb") as full, Talk(stdout=full) as talk:
+        talk.send(SHOW_STATUS)
+        talk.ends(6, WRITE_FAILED)
+
+
+def input_fails():
+    folder = os.open("/", os.O_RDONLY)
+    try:
+        with Talk(stdin=folder) as talk:
+            talk.ends(5, READ_FAILED)
+    finally:
+        os.close(folder)
+    with Talk(stdin=None, preexec_fn=lambda: os.close(0)) as talk:
+        talk.ends(5, READ_FAILED)
+
+
+def through_the_launcher():
+    with Talk(program=LAUNCHER) as talk:
+        for command, reply in TALK:
+            talk.ask(command, reply)
+        talk.send("00")
+        talk.ends_by_itself(3, BAD_FRAME)
+    for words in ([], ["serve", ""], ["demo", "demo"]):
+        with Talk(words, program=LAUNCHER) as talk:
+            talk.ends_by_itself(2, USAGE)
+
+
+CASES = [
+    one_frame_and_wait,
+    one_byte_at_a_time,
+    in_two_pieces,
+    in_one_piece,
+    many_frames,
+    first_refusal_decides,
+    longest_body,
+    bad_frames,
+    truncated_frames,
+    other_words,
+    reader_gone,
+    output_closed,
+    output_full,
+    input_fails,
+    through_the_launcher,
+]
+
+
+def main():
+    # a write to a program that has ended is an error here, and not the end of this script
+    signal.signal(signal.SIGPIPE, signal.SIG_IGN)
+    signal.signal(signal.SIGALRM, too_late)
+    failed = 0
+    for case in CASES:
+        try:
+            case()
+        except (Wrong, OSError) as error:
+            failed += 1
+            print(f"client: {case.__name__} FAILED: {error}")
+    print(f"client: {len(CASES) - failed} passed, {failed} failed")
+    return 1 if failed else 0
+
+
+if __name__ == "__main__":
+    sys.exit(main())
