@@ -4,3 +4,4 @@ pub mod Pieces
 pub mod Ending
 pub mod Words
 pub mod Outputs
+pub mod OneOutput

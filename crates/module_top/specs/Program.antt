@@ -31,3 +31,8 @@ pub record IsProgramOutput (words : List (List ℕ)) (bytes : List ℕ) (status 
   pub too_long : words ≡ serve_words → stream_max ≤ length bytes →
       (t : MachineState) × (rest : List ℕ) × Runs initial_state (take stream_max bytes) t out rest
       × (status ≡ (if is_some (first_fault rest) then exit_status ended.BadFrame else exit_status ended.Limit))
+
+-- for words and input there is one status and one output
+abbrev pub HasOneOutput : Type 0
+HasOneOutput = (words : List (List ℕ)) (bytes : List ℕ) (status status' : ℕ) (out out' : List ℕ)
+    → IsProgramOutput words bytes status out → IsProgramOutput words bytes status' out' → (status ≡ status') × (out ≡ out')

@@ -3,11 +3,13 @@
 
 mod answering;
 mod faults;
+mod laws;
 mod running;
 mod serving;
 #[cfg(test)]
 mod tests;
 
 pub use faults::RunFault;
+pub use laws::has_one_output;
 pub use running::run;
 pub use serving::{Ended, serve};
