@@ -1,5 +1,3 @@
-pub mod Numbers
-pub mod Services
 pub mod Requests
 pub mod CommandFrames
 pub mod Buffers

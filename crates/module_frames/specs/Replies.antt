@@ -1,8 +1,8 @@
 -- What a reply stands for.
 use Rattle.std.specs.Prelude.{false, [], replicate}
 use Rattle.module_frames.specs.declared.reply.Reply.{Reply}
-use Rattle.module_frames.specs.declared.state.State.TheVariants as state
-use Rattle.module_frames.specs.declared.status.Status.TheVariants as status
+use Rattle.service_table.specs.declared.state.State.TheVariants as state
+use Rattle.service_table.specs.declared.status.Status.TheVariants as status
 use Rattle.module_frames.specs.ReplyFrames.{ReplyFrame}
 
 abbrev pub frame_of : Reply → ReplyFrame

@@ -1,9 +1,9 @@
 -- The grammar of reply frames. Numbers are big-endian.
 use Rattle.std.specs.Prelude.{ℕ, Bool, List, ◌∷◌, ◌++◌, length, if◌then◌else◌}
 use Rattle.std.specs.Int.{to_be_bytes, w16, w32}
-use Rattle.module_frames.specs.declared.state.State.{State}
-use Rattle.module_frames.specs.declared.status.Status.{Status}
-use Rattle.module_frames.specs.Numbers.{state_number, status_number}
+use Rattle.service_table.specs.declared.state.State.{State}
+use Rattle.service_table.specs.declared.status.Status.{Status}
+use Rattle.service_table.specs.Numbers.{state_number, status_number}
 
 -- a reply: the command's service, its status, the state after it, whether it was an approved service, the error code,
 -- the status block of 12 bytes, and the payload

@@ -1,8 +1,8 @@
 -- The forms of bodies: what request a body spells for a service, and else none.
-use Rattle.std.specs.Prelude.{ℕ, ◌≤◌, ◌==◌, ◌&&◌, nat_le, List, length, Option, Some, None, if◌then◌else◌}
+use Rattle.std.specs.Prelude.{ℕ, ◌≤◌, ◌==◌, ◌&&◌, nat_le, List, length, slice_index, Option, Some, None, if◌then◌else◌}
 use Rattle.std.specs.Int.{from_be_bytes, w32}
-use Rattle.module_frames.specs.declared.service.Service.{Service}
-use Rattle.module_frames.specs.declared.service.Service.TheVariants as service
+use Rattle.service_table.specs.declared.service.Service.{Service}
+use Rattle.service_table.specs.declared.service.Service.TheVariants as service
 use Rattle.module_frames.specs.declared.request.Request.{Request}
 use Rattle.module_frames.specs.declared.request.Request.TheVariants as request
 
@@ -13,16 +13,28 @@ power_on_of body =
     then Some (request.PowerOn (from_be_bytes w32 body))
     else None
 
+-- a role of one byte, at most 2
+abbrev pub select_role_of : List ℕ → Option Request
+select_role_of body =
+    if length body == 1 && nat_le (slice_index body 0) 2
+    then Some (request.SelectRole (slice_index body 0))
+    else None
+
 -- a body without bytes
 abbrev pub empty_of : List ℕ → Request → Option Request
 empty_of body asked = if length body == 0 then Some asked else None
 
 abbrev pub request_of : Service → List ℕ → Option Request
 request_of service.PowerOn body = power_on_of body
+request_of service.TestStep body = empty_of body request.TestStep
+request_of service.RequestTests body = empty_of body request.RequestTests
 request_of service.ShowStatus body = empty_of body request.ShowStatus
+request_of service.ShowVersion body = empty_of body request.ShowVersion
+request_of service.SelectRole body = select_role_of body
 request_of service.Reset body = empty_of body request.Reset
 
--- a period that a module may have
-abbrev pub HasPeriodInRange : Request → Type 0
-HasPeriodInRange (request.PowerOn period) = period ≤ 1000000
-HasPeriodInRange other = Unit {0}
+-- the numbers of a request are within their bounds
+abbrev pub IsInRange : Request → Type 0
+IsInRange (request.PowerOn period) = period ≤ 1000000
+IsInRange (request.SelectRole role) = role ≤ 2
+IsInRange other = Unit {0}

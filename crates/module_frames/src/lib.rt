@@ -6,15 +6,9 @@ mod frames;
 mod laws;
 mod reply;
 mod request;
-mod service;
-mod state;
-mod status;
 
 pub use command::Command;
 pub use frames::{Fed, Frames};
 pub use laws::splits_in_one_way;
 pub use reply::Reply;
 pub use request::{Request, read_request};
-pub use service::{Service, is_permitted, service_of};
-pub use state::State;
-pub use status::Status;

@@ -3,7 +3,7 @@ ghost use Rattle.std.specs.Prelude.{◌≡◌, IfOk};
 ghost use Rattle.module_frames.specs.Replies.{frame_of, cleared_reply};
 ghost use Rattle.module_frames.specs.ReplyFrames.{reply_header, indicator};
 
-use crate::{State, Status};
+use service_table::{State, Status};
 use std::alloc::{AllocError, Global};
 
 /// A reply: what the module answers to a command. Its payload is empty, since no service gives data yet.

@@ -1,9 +1,9 @@
 -- The one order, a refusal at a time.
 use Rattle.std.proofs.Common.{◌≡◌, ℕ, List, true, false, Some, None, refl}
-use Rattle.module_frames.specs.declared.service.Service.{Service}
-use Rattle.module_frames.specs.declared.status.Status.{Status}
-use Rattle.module_frames.specs.declared.status.Status.TheVariants as status
-use Rattle.module_frames.specs.Services.{service_numbered, is_permitted}
+use Rattle.service_table.specs.declared.service.Service.{Service}
+use Rattle.service_table.specs.declared.status.Status.{Status}
+use Rattle.service_table.specs.declared.status.Status.TheVariants as status
+use Rattle.service_table.specs.Services.{service_numbered, is_permitted}
 use Rattle.module_frames.specs.Requests.{request_of}
 use Rattle.module_frames.specs.CommandFrames.{CommandFrame}
 use Rattle.module_frames.specs.PublicState.{no_block}

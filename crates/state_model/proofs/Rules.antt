@@ -3,12 +3,12 @@ use Rattle.std.proofs.Common.{◌≡◌, ℕ, List, Bool, true, false, Option, S
 use Rattle.std.specs.Prelude.{◌==◌, ◌&&◌, nat_le}
 use Rattle.std.specs.Int.{from_be_bytes, w32}
 use Rattle.std.proofs.lemmas.Bool.Decides.{nat_tests}
-use Rattle.module_frames.specs.declared.service.Service.{Service}
-use Rattle.module_frames.specs.declared.service.Service.TheVariants as service
+use Rattle.service_table.specs.declared.service.Service.{Service}
+use Rattle.service_table.specs.declared.service.Service.TheVariants as service
 use Rattle.module_frames.specs.declared.request.Request.{Request}
 use Rattle.module_frames.specs.declared.request.Request.TheVariants as request
-use Rattle.module_frames.specs.declared.status.Status.TheVariants as status
-use Rattle.module_frames.specs.Services.{service_numbered, is_permitted}
+use Rattle.service_table.specs.declared.status.Status.TheVariants as status
+use Rattle.service_table.specs.Services.{service_numbered, is_permitted}
 use Rattle.module_frames.specs.Requests.{request_of}
 use Rattle.state_model.specs.MachineState.{MachineState, IsWellFormed}
 use Rattle.state_model.specs.Step.{step, asked, refused, ordered, StepsKeepTheRules}

@@ -1,6 +1,6 @@
 -- What the fields of a module show.
 use Rattle.std.specs.Prelude.{ℕ}
-use Rattle.module_frames.specs.declared.state.State.{State}
+use Rattle.service_table.specs.declared.state.State.{State}
 
 pub record Kept : Type 0 where
   pub state : State

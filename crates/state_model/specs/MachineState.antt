@@ -1,7 +1,7 @@
 -- What the machine keeps, and the rules of it.
 use Rattle.std.specs.Prelude.{◌≤◌, ℕ}
-use Rattle.module_frames.specs.declared.state.State.{State}
-use Rattle.module_frames.specs.declared.state.State.TheVariants as state
+use Rattle.service_table.specs.declared.state.State.{State}
+use Rattle.service_table.specs.declared.state.State.TheVariants as state
 use Rattle.module_frames.specs.PublicState.{PublicState}
 
 -- all that the machine keeps

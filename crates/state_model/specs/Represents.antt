@@ -1,7 +1,7 @@
 -- The bridge between a module and the machine.
 use Rattle.std.specs.Prelude.{◌≡◌, ℕ, List}
 use Rattle.module_frames.specs.declared.reply.Reply.{Reply}
-use Rattle.module_frames.specs.declared.status.Status.{Status}
+use Rattle.service_table.specs.declared.status.Status.{Status}
 use Rattle.module_frames.specs.CommandFrames.{CommandFrame}
 use Rattle.module_frames.specs.Replies.{frame_of}
 use Rattle.state_model.specs.Kept.{Kept}

@@ -1,12 +1,12 @@
 -- One step of the machine.
 use Rattle.std.specs.Prelude.{ℕ, false, List, [], Option, None, Some, if◌then◌else◌}
-use Rattle.module_frames.specs.declared.service.Service.{Service}
-use Rattle.module_frames.specs.declared.state.State.TheVariants as state
-use Rattle.module_frames.specs.declared.status.Status.{Status}
-use Rattle.module_frames.specs.declared.status.Status.TheVariants as status
+use Rattle.service_table.specs.declared.service.Service.{Service}
+use Rattle.service_table.specs.declared.state.State.TheVariants as state
+use Rattle.service_table.specs.declared.status.Status.{Status}
+use Rattle.service_table.specs.declared.status.Status.TheVariants as status
 use Rattle.module_frames.specs.declared.request.Request.{Request}
 use Rattle.module_frames.specs.declared.request.Request.TheVariants as request
-use Rattle.module_frames.specs.Services.{service_numbered, is_permitted}
+use Rattle.service_table.specs.Services.{service_numbered, is_permitted}
 use Rattle.module_frames.specs.Requests.{request_of}
 use Rattle.module_frames.specs.CommandFrames.{CommandFrame}
 use Rattle.module_frames.specs.ReplyFrames.{ReplyFrame}

@@ -1,6 +1,6 @@
 use Rattle.std.proofs.Common.{rules, [], ◌∷◌, refl}
 use Rattle.std.specs.Int.{to_be_bytes, w16, w32}
-use Rattle.module_frames.specs.Numbers.{state_number, status_number}
+use Rattle.service_table.specs.Numbers.{state_number, status_number}
 use Rattle.module_frames.specs.ReplyFrames.{indicator}
 use Rattle.module_frames.proofs.Joined.{four_parts}
 use Rattle.module_frames.proofs.reply.Reply.header.Goals as goal

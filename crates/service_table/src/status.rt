@@ -1,6 +1,6 @@
 // What a reply says of its command.
 ghost use Rattle.std.specs.Prelude.{◌≡◌};
-ghost use Rattle.module_frames.specs.Numbers.{status_number};
+ghost use Rattle.service_table.specs.Numbers.{status_number, status_numbered};
 
 /// The status of a reply: done, or the first reason of refusal.
 #[derive(Clone, Copy, Debug, PartialEq, Eq)]
@@ -25,6 +25,19 @@ impl Status {
             Status::UnknownService => 1,
             Status::NotInState => 2,
             Status::BadBody => 3,
+        }
+    }
+
+    /// The status with this number. `None` exactly where no status has it.
+    pub fn from_number(number: u8) -> Option<Status>
+        ensures { result ≡ status_numbered number }
+    {
+        match number {
+            0 => Some(Status::Ok),
+            1 => Some(Status::UnknownService),
+            2 => Some(Status::NotInState),
+            3 => Some(Status::BadBody),
+            _ => None,
         }
     }
 }

@@ -1,0 +1,51 @@
+-- The numbers by which frames name states, statuses and services.
+use Rattle.std.specs.Prelude.{ℕ, ◌==◌, List, [], ◌∷◌, Option, find}
+use Rattle.service_table.specs.declared.state.State.{State}
+use Rattle.service_table.specs.declared.state.State.TheVariants as state
+use Rattle.service_table.specs.declared.status.Status.{Status}
+use Rattle.service_table.specs.declared.status.Status.TheVariants as status
+use Rattle.service_table.specs.declared.service.Service.{Service}
+use Rattle.service_table.specs.declared.service.Service.TheVariants as service
+
+abbrev pub state_number : State → ℕ
+state_number state.Off = 0
+state_number state.Init = 1
+state_number state.SelfTest = 2
+state_number state.Approved = 3
+state_number state.Officer = 4
+state_number state.User = 5
+
+abbrev pub all_states : List State
+all_states = state.Off ∷ state.Init ∷ state.SelfTest ∷ state.Approved ∷ state.Officer ∷ state.User ∷ []
+
+-- the state with this number, where one has it
+abbrev pub state_numbered : ℕ → Option State
+state_numbered number = find (λ s. state_number s == number) all_states
+
+abbrev pub status_number : Status → ℕ
+status_number status.Ok = 0
+status_number status.UnknownService = 1
+status_number status.NotInState = 2
+status_number status.BadBody = 3
+
+abbrev pub all_statuses : List Status
+all_statuses = status.Ok ∷ status.UnknownService ∷ status.NotInState ∷ status.BadBody ∷ []
+
+abbrev pub status_numbered : ℕ → Option Status
+status_numbered number = find (λ s. status_number s == number) all_statuses
+
+abbrev pub service_number : Service → ℕ
+service_number service.PowerOn = 0x01
+service_number service.TestStep = 0x02
+service_number service.RequestTests = 0x03
+service_number service.ShowStatus = 0x04
+service_number service.ShowVersion = 0x05
+service_number service.SelectRole = 0x06
+service_number service.Reset = 0x07
+
+abbrev pub all_services : List Service
+all_services =
+    service.PowerOn ∷ service.TestStep ∷ service.RequestTests ∷ service.ShowStatus ∷ service.ShowVersion ∷ service.SelectRole ∷ service.Reset ∷ []
+
+abbrev pub service_numbered : ℕ → Option Service
+service_numbered number = find (λ s. service_number s == number) all_services

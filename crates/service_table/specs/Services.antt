@@ -1,0 +1,27 @@
+-- The table of services: the states in which each is permitted, and the class of its output.
+use Rattle.std.specs.Prelude.{◌==◌, Bool, List, [], ◌∷◌}
+use Rattle.std.specs.List.{list_any}
+use Rattle.service_table.specs.declared.class.Class.{Class}
+use Rattle.service_table.specs.declared.class.Class.TheVariants as class
+use Rattle.service_table.specs.declared.service.Service.{Service}
+use Rattle.service_table.specs.declared.service.Service.TheVariants as service
+use Rattle.service_table.specs.declared.state.State.{State}
+use Rattle.service_table.specs.declared.state.State.TheVariants as state
+use Rattle.service_table.specs.Numbers.{state_number, all_states}
+
+-- a row of the table: where the service is permitted
+abbrev pub states_of : Service → List State
+states_of service.PowerOn = state.Off ∷ []
+states_of service.TestStep = state.SelfTest ∷ []
+states_of service.RequestTests = state.Init ∷ state.Approved ∷ state.Officer ∷ state.User ∷ []
+states_of service.ShowStatus = all_states
+states_of service.ShowVersion = all_states
+states_of service.SelectRole = state.Approved ∷ state.Officer ∷ state.User ∷ []
+states_of service.Reset = state.Init ∷ state.SelfTest ∷ state.Approved ∷ state.Officer ∷ state.User ∷ []
+
+abbrev pub is_permitted : Service → State → Bool
+is_permitted asked found = list_any (λ s. state_number s == state_number found) (states_of asked)
+
+-- no service gives data so far
+abbrev pub class_of : Service → Class
+class_of asked = class.Nothing

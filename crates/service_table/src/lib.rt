@@ -1,0 +1,16 @@
+//! The table of services: numbers, states in which each is permitted, classes of output.
+#![tactic(auto)]
+
+mod class;
+mod laws;
+mod service;
+mod state;
+mod status;
+#[cfg(test)]
+mod tests;
+
+pub use class::{Class, class_of};
+pub use laws::table_laws;
+pub use service::{Service, permitted, service_of};
+pub use state::State;
+pub use status::Status;

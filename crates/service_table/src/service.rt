@@ -1,0 +1,77 @@
+// The services: their numbers, and the states in which each is permitted.
+ghost use Rattle.std.specs.Prelude.{◌≡◌};
+ghost use Rattle.service_table.specs.Numbers.{service_number, service_numbered};
+ghost use Rattle.service_table.specs.Services.{is_permitted};
+
+use crate::State;
+
+/// The services of the module (FIPS 140-3; ISO/IEC 19790:2012, 7.4.3).
+#[derive(Clone, Copy, Debug, PartialEq, Eq)]
+pub enum Service {
+    /// From Off to Init; sets the period.
+    PowerOn,
+    /// One of the self-tests that are due.
+    TestStep,
+    /// Asks for the self-tests.
+    RequestTests,
+    /// Shows the public state.
+    ShowStatus,
+    /// Shows the module's name and version.
+    ShowVersion,
+    /// Takes a role, or none.
+    SelectRole,
+    /// Back to Init.
+    Reset,
+}
+
+impl Service {
+    /// The number by which a command names the service.
+    pub fn number(self) -> u8
+        ensures { result ≡ service_number self }
+    {
+        match self {
+            Service::PowerOn => 0x01,
+            Service::TestStep => 0x02,
+            Service::RequestTests => 0x03,
+            Service::ShowStatus => 0x04,
+            Service::ShowVersion => 0x05,
+            Service::SelectRole => 0x06,
+            Service::Reset => 0x07,
+        }
+    }
+}
+
+/// The service with this number. `None` exactly where no service has it.
+pub fn service_of(number: u8) -> Option<Service>
+    ensures { result ≡ service_numbered number }
+{
+    match number {
+        0x01 => Some(Service::PowerOn),
+        0x02 => Some(Service::TestStep),
+        0x03 => Some(Service::RequestTests),
+        0x04 => Some(Service::ShowStatus),
+        0x05 => Some(Service::ShowVersion),
+        0x06 => Some(Service::SelectRole),
+        0x07 => Some(Service::Reset),
+        _ => None,
+    }
+}
+
+/// Whether a command for the service is permitted in this state.
+pub fn permitted(service: Service, state: State) -> bool
+    ensures { result ≡ is_permitted service state }
+{
+    match service {
+        Service::PowerOn => matches!(&state, State::Off),
+        Service::TestStep => matches!(&state, State::SelfTest),
+        Service::RequestTests => {
+            matches!(
+                &state,
+                State::Init | State::Approved | State::Officer | State::User
+            )
+        }
+        Service::ShowStatus | Service::ShowVersion => true,
+        Service::SelectRole => matches!(&state, State::Approved | State::Officer | State::User),
+        Service::Reset => !matches!(&state, State::Off),
+    }
+}
