@@ -38,3 +38,13 @@ abbrev pub IsInRange : Request → Type 0
 IsInRange (request.PowerOn period) = period ≤ 1000000
 IsInRange (request.SelectRole role) = role ≤ 2
 IsInRange other = Unit {0}
+
+-- the service that a request is for
+abbrev pub service_for : Request → Service
+service_for (request.PowerOn period) = service.PowerOn
+service_for request.TestStep = service.TestStep
+service_for request.RequestTests = service.RequestTests
+service_for request.ShowStatus = service.ShowStatus
+service_for request.ShowVersion = service.ShowVersion
+service_for (request.SelectRole role) = service.SelectRole
+service_for request.Reset = service.Reset

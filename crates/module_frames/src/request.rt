@@ -1,6 +1,6 @@
 // What the body of a command asks for.
 ghost use Rattle.std.specs.Prelude.{◌≡◌, IfSome};
-ghost use Rattle.module_frames.specs.Requests.{request_of, power_on_of, select_role_of, IsInRange};
+ghost use Rattle.module_frames.specs.Requests.{request_of, power_on_of, select_role_of, service_for, IsInRange};
 
 use service_table::Service;
 
@@ -27,6 +27,7 @@ pub enum Request {
 pub fn read_request(service: Service, body: &[u8]) -> Option<Request>
     ensures read { result ≡ request_of service body.now }
     ensures in_range { IfSome result IsInRange }
+    ensures asked { IfSome result (λ request. service_for request ≡ service) }
 {
     match service {
         Service::PowerOn => read_power_on(body),
@@ -42,6 +43,7 @@ pub fn read_request(service: Service, body: &[u8]) -> Option<Request>
 fn read_power_on(body: &[u8]) -> Option<Request>
     ensures read { result ≡ power_on_of body.now }
     ensures in_range { IfSome result IsInRange }
+    ensures asked { IfSome result (λ request. service_for request ≡ Service.PowerOn) }
 {
     match body {
         [a, b, c, d] => {
@@ -55,6 +57,7 @@ fn read_power_on(body: &[u8]) -> Option<Request>
 fn read_select_role(body: &[u8]) -> Option<Request>
     ensures read { result ≡ select_role_of body.now }
     ensures in_range { IfSome result IsInRange }
+    ensures asked { IfSome result (λ request. service_for request ≡ Service.SelectRole) }
 {
     match body {
         [role] => (*role <= 2).then_some(Request::SelectRole { role: *role }),

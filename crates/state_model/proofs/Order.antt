@@ -3,7 +3,8 @@ use Rattle.std.proofs.Common.{◌≡◌, ℕ, List, true, false, Some, None, ref
 use Rattle.service_table.specs.declared.service.Service.{Service}
 use Rattle.service_table.specs.declared.status.Status.{Status}
 use Rattle.service_table.specs.declared.status.Status.TheVariants as status
-use Rattle.service_table.specs.Services.{service_numbered, is_permitted}
+use Rattle.service_table.specs.Numbers.{service_numbered}
+use Rattle.service_table.specs.Services.{is_permitted}
 use Rattle.module_frames.specs.Requests.{request_of}
 use Rattle.module_frames.specs.CommandFrames.{CommandFrame}
 use Rattle.module_frames.specs.PublicState.{no_block}

@@ -4,4 +4,6 @@ use Rattle.service_table.specs.declared.state.State.{State}
 
 pub record Kept : Type 0 where
   pub state : State
+  pub back : State
+  pub step : ℕ
   pub period : ℕ

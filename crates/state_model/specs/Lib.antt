@@ -3,3 +3,4 @@ pub mod Step
 pub mod Kept
 pub mod Held
 pub mod Represents
+pub mod Asking

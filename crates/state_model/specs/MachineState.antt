@@ -1,22 +1,35 @@
 -- What the machine keeps, and the rules of it.
-use Rattle.std.specs.Prelude.{◌≤◌, ℕ}
+use Rattle.std.specs.Prelude.{◌≡◌, ◌≢◌, ◌≤◌, ℕ}
 use Rattle.service_table.specs.declared.state.State.{State}
 use Rattle.service_table.specs.declared.state.State.TheVariants as state
 use Rattle.module_frames.specs.PublicState.{PublicState}
 
--- all that the machine keeps
+-- all that the machine keeps: the state, the state to return to from self-tests and how many of them were done, and the period
 pub record MachineState : Type 0 where
   pub state : State
+  pub back : State
+  pub step : ℕ
   pub period : ℕ
 
 -- not powered, and all else zero
 abbrev pub initial_state : MachineState
-initial_state = record { state = state.Off; period = 0 }
+initial_state = record { state = state.Off; back = state.Off; step = 0; period = 0 }
+
+-- a state to which self-tests return
+abbrev pub IsReturn : State → Type 0
+IsReturn state.Approved = Unit {0}
+IsReturn state.Officer = Unit {0}
+IsReturn state.User = Unit {0}
+IsReturn other = ⊥
 
 -- the rules
 pub record IsWellFormed (s : MachineState) : Type 0 where
   pub period : s.period ≤ 1000000
+  -- while tests are due, they return to a state of use, and at most two of the three were done
+  pub testing : s.state ≡ state.SelfTest → IsReturn s.back × (s.step ≤ 2)
+  -- else both are zero
+  pub settled : s.state ≢ state.SelfTest → (s.back ≡ state.Off) × (s.step ≡ 0)
 
 -- the part that everyone may see
 abbrev pub public_of : MachineState → PublicState
-public_of s = record { state = s.state; period = s.period }
+public_of s = record { state = s.state; back = s.back; step = s.step; period = s.period }

@@ -1,16 +1,18 @@
 -- One step of the machine.
-use Rattle.std.specs.Prelude.{ℕ, false, List, [], Option, None, Some, if◌then◌else◌}
+use Rattle.std.specs.Prelude.{ℕ, ◌+◌, ◌==◌, nat_lt, false, List, [], Option, None, Some, if◌then◌else◌}
 use Rattle.service_table.specs.declared.service.Service.{Service}
+use Rattle.service_table.specs.declared.state.State.{State}
 use Rattle.service_table.specs.declared.state.State.TheVariants as state
 use Rattle.service_table.specs.declared.status.Status.{Status}
 use Rattle.service_table.specs.declared.status.Status.TheVariants as status
 use Rattle.module_frames.specs.declared.request.Request.{Request}
 use Rattle.module_frames.specs.declared.request.Request.TheVariants as request
-use Rattle.service_table.specs.Services.{service_numbered, is_permitted}
+use Rattle.service_table.specs.Numbers.{service_numbered}
+use Rattle.service_table.specs.Services.{is_permitted}
 use Rattle.module_frames.specs.Requests.{request_of}
 use Rattle.module_frames.specs.CommandFrames.{CommandFrame}
 use Rattle.module_frames.specs.ReplyFrames.{ReplyFrame}
-use Rattle.module_frames.specs.PublicState.{status_block, no_block}
+use Rattle.module_frames.specs.PublicState.{status_block, version_block, no_block}
 use Rattle.state_model.specs.MachineState.{MachineState, IsWellFormed, public_of}
 
 -- what a step leaves, and what it answers
@@ -31,14 +33,42 @@ done after block = record { machine = after; status = status.Ok; block = block }
 abbrev pub power_on : MachineState → ℕ → MachineState
 power_on s period = record s { state = state.Init; period = period }
 
+-- where self-tests return that were asked for in this state: where it was, and from Init to Approved
+abbrev pub return_from : State → State
+return_from state.Init = state.Approved
+return_from other = other
+
+-- RequestTests: the tests are due from the first one on
+abbrev pub request_tests : MachineState → MachineState
+request_tests s = record s { state = state.SelfTest; back = return_from s.state; step = 0 }
+
+-- TestStep: the next of three steps, and after the last one back. No step makes a test yet.
+abbrev pub test_step : MachineState → MachineState
+test_step s =
+    if nat_lt s.step 2
+    then record s { step = s.step + 1 }
+    else record s { state = s.back; back = state.Off; step = 0 }
+
+-- the state of a role: none, the crypto officer's, the user's
+abbrev pub role_state : ℕ → State
+role_state role = if role == 0 then state.Approved else if role == 1 then state.Officer else state.User
+
+-- SelectRole: the state of the role
+abbrev pub select_role : MachineState → ℕ → MachineState
+select_role s role = record s { state = role_state role }
+
 -- Reset: to Init; the period stays
 abbrev pub reset : MachineState → MachineState
-reset s = record s { state = state.Init }
+reset s = record s { state = state.Init; back = state.Off; step = 0 }
 
--- what is done for a request; ShowStatus tells the public state
+-- what is done for a request; two services tell something
 abbrev pub done_for : MachineState → Request → Stepped
 done_for s (request.PowerOn period) = done (power_on s period) no_block
+done_for s request.TestStep = done (test_step s) no_block
+done_for s request.RequestTests = done (request_tests s) no_block
 done_for s request.ShowStatus = done s (status_block (public_of s))
+done_for s request.ShowVersion = done s version_block
+done_for s (request.SelectRole role) = done (select_role s role) no_block
 done_for s request.Reset = done (reset s) no_block
 
 -- The one order: a number that is no service's, a service that isn't permitted in this state, a body that isn't of its

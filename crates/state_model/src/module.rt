@@ -1,14 +1,15 @@
 // The module: private fields, and one public call for a command.
-ghost use Rattle.std.specs.Prelude.{◌≡◌, ◌≤◌, IfOk};
-ghost use Rattle.module_frames.specs.Requests.{HasPeriodInRange};
+ghost use Rattle.std.specs.Prelude.{◌≡◌, ◌≢◌, ◌≤◌, true, IfOk};
+ghost use Rattle.service_table.specs.Services.{is_permitted};
+ghost use Rattle.module_frames.specs.Requests.{IsInRange};
 ghost use Rattle.module_frames.specs.PublicState.{status_block, no_block};
 ghost use Rattle.state_model.specs.MachineState.{MachineState, initial_state, public_of};
-ghost use Rattle.state_model.specs.Step.{step, done_for, power_on, reset};
+ghost use Rattle.state_model.specs.Step.{step, done_for, power_on, request_tests, test_step, select_role, reset, return_from, role_state};
+ghost use Rattle.state_model.specs.Asking.{MayBeAsked};
 ghost use Rattle.state_model.specs.Represents.{Represents, Leaves, Replies};
 
-use module_frames::{
-    Command, Reply, Request, State, Status, is_permitted, read_request, service_of,
-};
+use module_frames::{Command, Reply, Request, read_request};
+use service_table::{Service, State, Status, permitted, service_of};
 use std::alloc::{AllocError, Global};
 use std::marker::Model;
 
@@ -16,6 +17,8 @@ use std::marker::Model;
 #[derive(Drop)]
 pub struct Module {
     state: State,
+    back: State,
+    step: u8,
     period: u32,
 }
 
@@ -31,6 +34,30 @@ impl Model for Module {
     ghost invariant = { IsHeld };
 }
 
+// Name and version, as ShowVersion tells them.
+const VERSION: [u8; 12] = *b"SYMMOD 01.00";
+
+// Where self-tests return that were asked for in this state.
+fn return_from(state: State) -> State
+    ensures { result ≡ return_from state }
+{
+    match state {
+        State::Init => State::Approved,
+        other => other,
+    }
+}
+
+// The state of a role: none, the crypto officer's, the user's.
+fn role_state(role: u8) -> State
+    ensures { result ≡ role_state role }
+{
+    match role {
+        0 => State::Approved,
+        1 => State::Officer,
+        _ => State::User,
+    }
+}
+
 impl Module {
     /// A module that isn't powered. It takes no memory as long as it has no slots.
     pub fn open(_alloc: Global) -> Result<Module, AllocError>
@@ -38,6 +65,8 @@ impl Module {
     {
         Ok(Module {
             state: State::Off,
+            back: State::Off,
+            step: 0,
             period: 0,
         })
     }
@@ -51,11 +80,44 @@ impl Module {
 
     // PowerOn: Off to Init, and sets the period.
     fn power_on(&mut self, period: u32)
-        requires { period ≤ 1000000 }
+        requires off { self.old.state ≡ State.Off }
+        requires period { period ≤ 1000000 }
         ensures { (s : MachineState) → Represents self.old s → Represents self.new (power_on s period) }
     {
         self.state = State::Init;
         self.period = period;
+    }
+
+    // RequestTests: the tests are due from the first one on.
+    fn request_tests(&mut self)
+        requires { is_permitted Service.RequestTests self.old.state ≡ true }
+        ensures { (s : MachineState) → Represents self.old s → Represents self.new (request_tests s) }
+    {
+        self.back = return_from(self.state);
+        self.state = State::SelfTest;
+        self.step = 0;
+    }
+
+    // TestStep: the next of three steps, and after the last one back.
+    fn test_step(&mut self)
+        requires { self.old.state ≡ State.SelfTest }
+        ensures { (s : MachineState) → Represents self.old s → Represents self.new (test_step s) }
+    {
+        if self.step < 2 {
+            self.step += 1;
+        } else {
+            self.state = self.back;
+            self.back = State::Off;
+            self.step = 0;
+        }
+    }
+
+    // SelectRole: the state of the role.
+    fn select_role(&mut self, role: u8)
+        requires { self.old.state ≢ State.SelfTest }
+        ensures { (s : MachineState) → Represents self.old s → Represents self.new (select_role s role) }
+    {
+        self.state = role_state(role);
     }
 
     // Reset: to Init. The period stays.
@@ -63,6 +125,8 @@ impl Module {
         ensures { (s : MachineState) → Represents self.old s → Represents self.new (reset s) }
     {
         self.state = State::Init;
+        self.back = State::Off;
+        self.step = 0;
     }
 
     // ShowStatus: the public state.
@@ -70,18 +134,25 @@ impl Module {
         requires { block.old ≡ no_block }
         ensures { (s : MachineState) → Represents self.now s → block.new ≡ status_block (public_of s) }
     {
+        block[0] = self.back.number();
+        block[1] = self.step;
         block[4..8].copy_from_slice(&self.period.to_be_bytes());
     }
 
     // Does what is asked, and fills the block.
     fn answer(&mut self, request: Request, block: &mut [u8; 12])
         requires block { block.old ≡ no_block }
-        requires period { HasPeriodInRange request }
+        requires in_range { IsInRange request }
+        requires permitted { MayBeAsked request self.old.state }
         ensures { (s : MachineState) → Represents self.old s → Leaves (done_for s request) self.new Status.Ok block.new }
     {
         match request {
             Request::PowerOn { period } => self.power_on(period),
+            Request::TestStep => self.test_step(),
+            Request::RequestTests => self.request_tests(),
             Request::ShowStatus => self.show_status(block),
+            Request::ShowVersion => *block = VERSION,
+            Request::SelectRole { role } => self.select_role(role),
             Request::Reset => self.reset(),
         }
     }
@@ -94,7 +165,7 @@ impl Module {
         let Some(service) = service_of(command.service()) else {
             return Status::UnknownService;
         };
-        if !is_permitted(service, self.state) {
+        if !permitted(service, self.state) {
             return Status::NotInState;
         }
         let Some(request) = read_request(service, command.body()) else {

@@ -14,22 +14,22 @@ returns-in_default c s represents =
     let unknown = rw c.service.ensures at (sym c.service_of.ensures ∙ c.in_default.is) in
     rw (step_unknown s c.args.command.now unknown) (refused_leaves c.args.self.now s _ c.args.block.now represents c.requires)
 
-pub returns-then-not-is_permitted : goal.returns-then-not-is_permitted
-returns-then-not-is_permitted c s represents =
+pub returns-then-not-permitted : goal.returns-then-not-permitted
+returns-then-not-permitted c s represents =
     let known = rw c.service.ensures at (sym c.service_of.ensures ∙ c.in-Some.is) in
-    let refusal = rw (same_state c.self.view_is represents) at (sym c.is_permitted.ensures ∙ c.if-not-is_permitted.true) in
+    let refusal = rw (same_state c.self.view_is represents) at (sym c.permitted.ensures ∙ c.if-not-permitted.true) in
     rw (step_not_permitted s c.args.command.now c.in-Some.service known refusal) (refused_leaves c.args.self.now s _ c.args.block.now represents c.requires)
 
 pub returns-in_default-read_request : goal.returns-in_default-read_request
 returns-in_default-read_request c s represents =
     let known = rw c.service.ensures at (sym c.service_of.ensures ∙ c.in-Some.is) in
-    let leave = rw (same_state c.self.view_is represents) at (sym c.is_permitted.ensures ∙ c.if-not-is_permitted.false) in
+    let leave = rw (same_state c.self.view_is represents) at (sym c.permitted.ensures ∙ c.if-not-permitted.false) in
     let bad = rw c.body.ensures.body at (sym c.read_request.ensures.read ∙ c.in_default-read_request.is) in
     rw (step_asked s c.args.command.now c.in-Some.service known leave, bad) (refused_leaves c.args.self.now s _ c.args.block.now represents c.requires)
 
 pub returns : goal.returns
 returns c s represents =
     let known = rw c.service.ensures at (sym c.service_of.ensures ∙ c.in-Some.is) in
-    let leave = rw (same_state c.self.view_is represents) at (sym c.is_permitted.ensures ∙ c.if-not-is_permitted.false) in
+    let leave = rw (same_state c.self.view_is represents) at (sym c.permitted.ensures ∙ c.if-not-permitted.false) in
     let good = rw c.body.ensures.body at (sym c.read_request.ensures.read ∙ c.in-Some-read_request.is) in
     rw (step_asked s c.args.command.now c.in-Some.service known leave, good) (c.answer.ensures s represents)
