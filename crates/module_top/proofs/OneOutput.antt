@@ -1,15 +1,14 @@
 -- The definition of the program's output leaves nothing open.
-use Rattle.std.proofs.Common.{◌≡◌, ◌≢◌, ◌⊎◌, inl, inr, ◌<◌, ◌≤◌, ℕ, List, [], ◌∷◌, length, take, get_or, drop, sym, refl, ◌∙◌, ap, subst}
+use Rattle.std.proofs.Common.{◌≡◌, ◌≢◌, ◌⊎◌, inl, inr, ℕ, List, [], ◌∷◌, length, take, get_or, drop, sym, refl, ◌∙◌, ap}
 use Rattle.std.specs.Prelude.{is_some, if◌then◌else◌}
 use Rattle.std.proofs.lemmas.Bool.{cases_eq, cases_lt}
-use Rattle.module_frames.specs.CommandFrames.{CommandFrame}
 use Rattle.module_frames.specs.Streams.{first_fault}
 use Rattle.module_frames.proofs.Splitting.{one_way}
 use Rattle.state_model.specs.MachineState.{MachineState, initial_state}
 use Rattle.module_top.specs.declared.serving.Ended.TheVariants as ended
 use Rattle.module_top.specs.Run.{Ran, Runs, run_commands, ending_of}
 use Rattle.module_top.specs.Serving.{stream_max}
-use Rattle.module_top.specs.Program.{serve_words, exit_status, IsProgramOutput, HasOneOutput}
+use Rattle.module_top.specs.Program.{serve_words, exit_status, HasOneOutput}
 
 -- lists of which equality of elements is decided are equal or not
 cases_lists : {X : Type 0} → X → ((x y : X) → (x ≡ y) ⊎ (x ≢ y)) → (xs ys : List X) → (xs ≡ ys) ⊎ (xs ≢ ys)
@@ -18,10 +17,10 @@ cases_lists d cases [] (y ∷ ys) = inr (λ e. cc)
 cases_lists d cases (x ∷ xs) [] = inr (λ e. cc)
 cases_lists {X} d cases (x ∷ xs) (y ∷ ys) =
     elim (cases x y) [
-      inr other ↦ inr (λ e. other (ap (λ (zs : List X). get_or zs 0 d) e))
-    | inl same ↦ elim (cases_lists d cases xs ys) [
-        inr more ↦ inr (λ e. more (ap (λ (zs : List X). drop 1 zs) e))
-      | inl rest ↦ inl (ap (λ z. z ∷ xs) same ∙ ap (λ zs. y ∷ zs) rest)
+      | inr other ↦ inr (λ e. other (ap (λ (zs : List X). get_or zs 0 d) e))
+      | inl same ↦ elim (cases_lists d cases xs ys) [
+        | inr more ↦ inr (λ e. more (ap (λ (zs : List X). drop 1 zs) e))
+        | inl rest ↦ inl (ap (λ z. z ∷ xs) same ∙ ap (λ zs. y ∷ zs) rest)
       ]
     ]
 
@@ -37,18 +36,18 @@ one_run s t u bytes out rest out' rest' one other =
 pub one_output : HasOneOutput
 one_output words bytes status status' out out' one other =
     elim (cases_words words) [
-      inr others ↦ (
+      | inr others ↦ (
         (one.usage others).0 ∙ sym (other.usage others).0,
         (one.usage others).1 ∙ sym (other.usage others).1,
       )
-    | inl is ↦ elim (cases_lt (length bytes) stream_max) [
-        inl short ↦ (let a = one.serve is short in
-        let b = other.serve is short in
-        let same = one_run initial_state a.0 b.0 bytes out a.1 out' b.1 a.2 b.2 in
-        (a.3 ∙ ap (λ rest. exit_status (ending_of rest)) same.1 ∙ sym b.3, same.0))
-      | inr long ↦ (let a = one.too_long is long in
-        let b = other.too_long is long in
-        let same = one_run initial_state a.0 b.0 (take stream_max bytes) out a.1 out' b.1 a.2 b.2 in
-        (a.3 ∙ ap (λ rest. if is_some (first_fault rest) then exit_status ended.BadFrame else exit_status ended.Limit) same.1 ∙ sym b.3, same.0))
+      | inl is ↦ elim (cases_lt (length bytes) stream_max) [
+        | inl short ↦ (let a = one.serve is short in
+            let b = other.serve is short in
+            let same = one_run initial_state a.0 b.0 bytes out a.1 out' b.1 a.2 b.2 in
+            (a.3 ∙ ap (λ rest. exit_status (ending_of rest)) same.1 ∙ sym b.3, same.0))
+        | inr long ↦ (let a = one.too_long is long in
+            let b = other.too_long is long in
+            let same = one_run initial_state a.0 b.0 (take stream_max bytes) out a.1 out' b.1 a.2 b.2 in
+            (a.3 ∙ ap (λ rest. if is_some (first_fault rest) then exit_status ended.BadFrame else exit_status ended.Limit) same.1 ∙ sym b.3, same.0))
       ]
     ]

@@ -4,5 +4,4 @@ ghost use Rattle.module_top.specs.Program.{HasOneOutput};
 /// The definition leaves nothing open: for words and input there is one status and one output.
 pub fn has_one_output()
     ensures { HasOneOutput }
-{
-}
+{}

@@ -33,7 +33,7 @@ fn outcome(alloc: Global, words: &[&str], bytes: &[u8], step: usize) -> Result<(
 {
     let words = words_of(alloc, words)?;
     let mut commands = MemSource::new(bytes.to_vec(alloc)?, step, Vec::new(alloc));
-    let mut replies = MemSink::new(alloc, 100, 24, Vec::new(alloc))?;
+    let mut replies = MemSink::new(alloc, 1_000, 24, Vec::new(alloc))?;
     let status = run(alloc, &words, &mut commands, &mut replies);
     Ok((status, replies))
 }
@@ -68,7 +68,7 @@ fn answers_the_worked_streams(rt: HostRuntime) -> Result<(), Fail> {
         0x5c, 0x01, 0x04, 0, 0, 0, 0, 0, 0, 0, 0, 0, 0, 0, 0, 0, 0, 0, 0, 0, 0, 0, 0, 0,
     ];
     let no_service = [
-        0x5c, 0x01, 0x02, 1, 0, 0, 0, 0, 0, 0, 0, 0, 0, 0, 0, 0, 0, 0, 0, 0, 0, 0, 0, 0,
+        0x5c, 0x01, 0x08, 1, 0, 0, 0, 0, 0, 0, 0, 0, 0, 0, 0, 0, 0, 0, 0, 0, 0, 0, 0, 0,
     ];
     let echoed = [
         0x5c, 0x01, 0x7e, 1, 0, 0, 0, 0, 0, 0, 0, 0, 0, 0, 0, 0, 0, 0, 0, 0, 0, 0, 0, 0,
@@ -79,7 +79,7 @@ fn answers_the_worked_streams(rt: HostRuntime) -> Result<(), Fail> {
     let rows: [(&[u8], &[u8], u8); 10] = [
         (&STREAM, &REPLIES, 0),
         (&[0xc5, 0x01, 0x04, 0, 0, 0, 0, 0], &off, 0),
-        (&[0xc5, 0x01, 0x02, 0, 0, 0, 0, 0], &no_service, 0),
+        (&[0xc5, 0x01, 0x08, 0, 0, 0, 0, 0], &no_service, 0),
         (&[0xc5, 0x01, 0x7e, 0, 0, 0, 0, 0], &echoed, 0),
         (&[0xc5, 0x01, 0x07, 0, 0, 0, 0, 0], &not_now, 0),
         (&[], &[], 0),
@@ -220,5 +220,79 @@ fn tells_each_fault(rt: HostRuntime) -> Result<(), Fail> {
     }
     assert!(rt; RunFault::of(0).is_none());
     assert!(rt; RunFault::of(13).is_none());
+    Ok(())
+}
+
+// A command without a body, or with a body of one byte or four.
+const POWER_ON: &[u8] = &[0xc5, 0x01, 0x01, 0, 0, 0, 0, 4, 0, 0, 0, 0];
+
+const TEST_STEP: &[u8] = &[0xc5, 0x01, 0x02, 0, 0, 0, 0, 0];
+
+const REQUEST_TESTS: &[u8] = &[0xc5, 0x01, 0x03, 0, 0, 0, 0, 0];
+
+const SHOW_STATUS: &[u8] = &[0xc5, 0x01, 0x04, 0, 0, 0, 0, 0];
+
+const SHOW_VERSION: &[u8] = &[0xc5, 0x01, 0x05, 0, 0, 0, 0, 0];
+
+const NO_ROLE: &[u8] = &[0xc5, 0x01, 0x06, 0, 0, 0, 0, 1, 0];
+
+const OFFICER: &[u8] = &[0xc5, 0x01, 0x06, 0, 0, 0, 0, 1, 1];
+
+const USER: &[u8] = &[0xc5, 0x01, 0x06, 0, 0, 0, 0, 1, 2];
+
+const FOURTH_ROLE: &[u8] = &[0xc5, 0x01, 0x06, 0, 0, 0, 0, 1, 3];
+
+const RESET: &[u8] = &[0xc5, 0x01, 0x07, 0, 0, 0, 0, 0];
+
+// Each command, and of its reply the status, the state and the status block.
+const DIALOGUE: [(&[u8], u8, u8, [u8; 12]); 21] = [
+    (POWER_ON, 0, 1, [0; 12]),
+    (TEST_STEP, 2, 1, [0; 12]),
+    (OFFICER, 2, 1, [0; 12]),
+    (REQUEST_TESTS, 0, 2, [0; 12]),
+    (SHOW_STATUS, 0, 2, [3, 0, 0, 0, 0, 0, 0, 0, 0, 0, 0, 0]),
+    (USER, 2, 2, [0; 12]),
+    (TEST_STEP, 0, 2, [0; 12]),
+    (TEST_STEP, 0, 2, [0; 12]),
+    (SHOW_STATUS, 0, 2, [3, 2, 0, 0, 0, 0, 0, 0, 0, 0, 0, 0]),
+    (TEST_STEP, 0, 3, [0; 12]),
+    (OFFICER, 0, 4, [0; 12]),
+    (FOURTH_ROLE, 3, 4, [0; 12]),
+    (REQUEST_TESTS, 0, 2, [0; 12]),
+    (TEST_STEP, 0, 2, [0; 12]),
+    (TEST_STEP, 0, 2, [0; 12]),
+    (TEST_STEP, 0, 4, [0; 12]),
+    (USER, 0, 5, [0; 12]),
+    (NO_ROLE, 0, 3, [0; 12]),
+    (SHOW_VERSION, 0, 3, *b"SYMMOD 01.00"),
+    (RESET, 0, 1, [0; 12]),
+    (TEST_STEP, 2, 1, [0; 12]),
+];
+
+fn reply_to(command: &[u8], status: u8, state: u8, block: &[u8; 12]) -> [u8; 24] {
+    let mut reply = [0; 24];
+    reply[0] = 0x5c;
+    reply[1] = 0x01;
+    reply[2] = match command {
+        [_, _, service, ..] => *service,
+        _ => 0,
+    };
+    reply[3] = status;
+    reply[4] = state;
+    reply[8..20].copy_from_slice(block);
+    reply
+}
+
+#[test]
+fn goes_through_tests_and_roles(rt: HostRuntime) -> Result<(), Fail> {
+    let mut stream = Vec::new(rt.alloc());
+    let mut want = Vec::new(rt.alloc());
+    for (command, status, state, block) in DIALOGUE {
+        stream.extend_from_slice(command)?;
+        want.extend_from_slice(&reply_to(command, status, state, &block))?;
+    }
+    let (status, replies) = outcome(rt.alloc(), &["serve"], &stream, 11)?;
+    assert_eq!(rt; status, 0);
+    assert_eq!(rt; replies.bytes(), want.as_slice());
     Ok(())
 }

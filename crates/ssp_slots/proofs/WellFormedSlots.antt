@@ -1,0 +1,109 @@
+-- What keeps slots well formed.
+use Rattle.std.proofs.Common.{◌≡◌, ℕ, ◌-◌, ◌<◌, ◌≤◌, Option, Some, None, List, length, get_or, set, replicate, IsTrue, MatchOption, refl, sym, ap, subst, ◌∙◌, arith, inl, inr}
+use Rattle.std.proofs.lemmas.Bool.{cases_eq, cases_lt}
+use Rattle.std.proofs.lemmas.List.{ext_get_or, length-replicate, length-set, get_or-set_same, get_or-set_other, get_or-replicate, get_or_append_left, length-take-le}
+use Rattle.std.proofs.Math.Seq.{drop-append_seam, get_or-append_right}
+use Rattle.bits_core.specs.declared.parameter.Header.{Header}
+use Rattle.bits_core.specs.declared.parameter.Kind.{Kind}
+use Rattle.bits_core.specs.declared.parameter.Kind.TheVariants.{Aes, Kek, Mac, Kdf}
+use Rattle.bits_core.specs.declared.parameter.Domain.{Domain}
+use Rattle.bits_core.specs.declared.parameter.Domain.TheVariants.{Other, Approved}
+use Rattle.bits_core.specs.Parameters.{length_fits}
+use Rattle.bits_core.specs.ByteList.{IsBytes, zeros, zero_padded}
+use Rattle.bits_core.proofs.ZeroPadding.{get_or-zeros, length-zero_padded}
+use Rattle.ssp_slots.specs.declared.slot.Slot.{Slot}
+use Rattle.ssp_slots.specs.Slots.{Contents, empty_slot, filled_slot, spent_slot, slot_in, parameter, HoldsParameter, IsWellFormed, AreWellFormed}
+
+-- no parameter is longer than 64 bytes
+pub length_fits-le : (kind : Kind) (domain : Domain) (n : ℕ) → IsTrue (length_fits kind domain n) → n ≤ 64
+length_fits-le Aes domain n fits = grind arith
+length_fits-le Kek domain n fits = grind arith
+length_fits-le Mac Other n fits = grind arith
+length_fits-le Mac Approved n fits = grind arith
+length_fits-le Kdf Other n fits = grind arith
+length_fits-le Kdf Approved n fits = grind arith
+
+-- bytes with zeros after them are bytes
+pub IsBytes-zero_padded : (n : ℕ) (bytes : List ℕ) → IsBytes bytes → IsBytes (zero_padded n bytes)
+IsBytes-zero_padded n bytes are_bytes k =
+    let rest : List ℕ = zeros (n - length bytes) in
+    let IsByte : ℕ → Type 0 = λ x. x < 256 in
+    elim (cases_lt k (length bytes)) [
+      | inl front ↦ subst IsByte (sym (get_or_append_left bytes rest 0 k front)) (are_bytes k)
+      | inr past ↦
+          let zero : get_or (zero_padded n bytes) k 0 ≡ 0 = get_or-append_right bytes rest k 0 past ∙ get_or-zeros (n - length bytes) (k - length bytes) in
+          subst IsByte (sym zero) (omega arith)
+    ]
+
+-- a slot that was filled with a parameter that fits
+pub IsWellFormed-filled : (header : Header) (bytes : List ℕ) → IsTrue (length_fits header.kind header.domain (length bytes))
+    → IsBytes bytes → IsWellFormed (filled_slot header bytes)
+IsWellFormed-filled header bytes fits are_bytes = record {
+  fits = fits;
+  room = length-zero_padded 64 bytes (length_fits-le header.kind header.domain (length bytes) fits);
+  byte_values = IsBytes-zero_padded 64 bytes are_bytes;
+  rest = drop-append_seam bytes (zeros (64 - length bytes));
+}
+
+spent_parts : (header : Option Header) (n : ℕ) (bytes : List ℕ)
+    → (let slot : Slot = record { header = header; length = n; bytes = bytes } in IsWellFormed slot → IsWellFormed (spent_slot slot))
+spent_parts None n bytes empty = empty
+spent_parts (Some header) n bytes holds = record {
+  fits = holds.fits;
+  room = holds.room;
+  byte_values = holds.byte_values;
+  rest = holds.rest;
+}
+
+-- a slot with one use less
+pub IsWellFormed-spent : (slot : Slot) → IsWellFormed slot → IsWellFormed (spent_slot slot)
+IsWellFormed-spent slot well = spent_parts slot.header slot.length slot.bytes well
+
+-- one slot among sixteen was written
+pub AreWellFormed-set : (slots : List Slot) (id : ℕ) (slot : Slot) → AreWellFormed slots → IsWellFormed slot
+    → AreWellFormed (set slots id slot)
+AreWellFormed-set slots id slot before well =
+    let Well : Slot → Type 0 = λ s. IsWellFormed s in
+    let long : length slots ≡ 16 = before.sixteen in
+    record {
+      sixteen = length-set slots id slot ∙ long;
+      each = λ k below. elim (cases_eq k id) [
+        | inl same ↦
+            let here : get_or (set slots id slot) k empty_slot ≡ slot =
+            ap (λ (j : ℕ). get_or (set slots id slot) j empty_slot) same ∙ get_or-set_same slots id slot empty_slot (omega arith) in
+            subst Well (sym here) well
+        | inr other ↦ subst Well (sym (get_or-set_other slots id k slot empty_slot other)) (before.each k below)
+      ];
+    }
+
+-- sixteen empty slots
+pub AreWellFormed-empty : AreWellFormed (replicate 16 empty_slot)
+AreWellFormed-empty =
+    let Well : Slot → Type 0 = λ s. IsWellFormed s in
+    record {
+      sixteen = refl;
+      each = λ k below. subst Well (sym (get_or-replicate 16 k empty_slot empty_slot below)) refl;
+    }
+
+-- a slot with a header, among sixteen that are well formed, holds its parameter
+pub HoldsParameter-at : (vault : Contents) (id : ℕ) (header : Header) → AreWellFormed vault.slots → id < 16
+    → (slot_in vault id).header ≡ Some header → HoldsParameter header (slot_in vault id)
+HoldsParameter-at vault id header are below is =
+    let slot : Slot = slot_in vault id in
+    let Well : Option Header → Type 0 = λ kept. MatchOption kept (slot ≡ empty_slot) (λ known. HoldsParameter known slot) in
+    subst Well is (are.each id below)
+
+-- the parameter is as long as the slot says
+pub length-parameter : (header : Header) (slot : Slot) → HoldsParameter header slot → length (parameter slot) ≡ slot.length
+length-parameter header slot holds =
+    let within : slot.length ≤ 64 = length_fits-le header.kind header.domain slot.length holds.fits in
+    let room : length slot.bytes ≡ 64 = holds.room in
+    length-take-le slot.length slot.bytes (omega arith)
+
+-- a list of which each element is x
+pub all_same : {A : Type 0} (n : ℕ) (xs : List A) (x : A) → length xs ≡ n → ((k : ℕ) → k < n → get_or xs k x ≡ x)
+    → xs ≡ replicate n x
+all_same n xs x long each =
+    ext_get_or x xs (replicate n x) (long ∙ sym (length-replicate n x)) (λ k below.
+    let within : k < n = omega arith in
+    each k within ∙ sym (get_or-replicate n k x x within))

@@ -1,0 +1,64 @@
+-- A slot of the vault, what it holds, and when it is well formed (ISO/IEC 19790:2012, 7.9).
+use Rattle.std.specs.Prelude.{◌≡◌, ℕ, ◌-◌, ◌<◌, Some, None, List, length, take, drop, IsTrue, is_some, MatchOption, replicate, slice_index_or, slice_set}
+use Rattle.std.specs.Option.{option_map}
+use Rattle.bits_core.specs.declared.parameter.Header.{Header}
+use Rattle.bits_core.specs.Parameters.{length_fits}
+use Rattle.bits_core.specs.ByteList.{IsBytes, zeros, zero_padded}
+use Rattle.ssp_slots.specs.declared.slot.Slot.{Slot}
+use Rattle.ssp_slots.specs.declared.shown.Shown.{Shown}
+
+-- an empty slot is zero in every field and byte
+abbrev pub empty_slot : Slot
+empty_slot = record { header = None; length = 0; bytes = zeros 64 }
+
+-- a full slot has a header, a length, and 64 bytes of which those past the length are zero
+abbrev pub filled_slot : Header → List ℕ → Slot
+filled_slot header bytes = record { header = Some header; length = length bytes; bytes = zero_padded 64 bytes }
+
+-- the slot holds a parameter: its length fits its header, and the bytes past it are zero
+pub record HoldsParameter (header : Header) (slot : Slot) : Type 0 where
+  pub fits : IsTrue (length_fits header.kind header.domain slot.length)
+  pub room : length slot.bytes ≡ 64
+  pub byte_values : IsBytes slot.bytes
+  pub rest : drop slot.length slot.bytes ≡ zeros (64 - slot.length)
+
+-- a slot is empty or holds a parameter
+abbrev pub IsWellFormed : Slot → Type 0
+IsWellFormed slot = MatchOption slot.header (slot ≡ empty_slot) (λ header. HoldsParameter header slot)
+
+-- the bytes of a slot's parameter, none where it is empty
+abbrev pub parameter : Slot → List ℕ
+parameter slot = take slot.length slot.bytes
+
+-- what a slot tells of itself
+abbrev pub shown_of : Slot → Shown
+shown_of slot = record { full = is_some slot.header; header = slot.header; length = slot.length }
+
+-- the header with one use less
+abbrev pub one_use_less : Header → Header
+one_use_less header = record header { uses = header.uses - 1 }
+
+-- the slot with one use less, and all else as it was
+abbrev pub spent_slot : Slot → Slot
+spent_slot slot = record slot { header = option_map one_use_less slot.header }
+
+-- what a vault keeps
+pub record Contents : Type 0 where
+  pub slots : List Slot
+
+-- the slot with a number
+abbrev pub slot_in : Contents → ℕ → Slot
+slot_in vault id = slice_index_or vault.slots id empty_slot
+
+-- the vault with this slot at a number, and all others as they were
+abbrev pub with_slot : Contents → ℕ → Slot → Contents
+with_slot vault id slot = record vault { slots = slice_set vault.slots id slot }
+
+-- sixteen empty slots
+abbrev pub empty_vault : Contents
+empty_vault = record { slots = replicate 16 empty_slot }
+
+-- there are sixteen slots, and each is well formed
+pub record AreWellFormed (slots : List Slot) : Type 0 where
+  pub sixteen : length slots ≡ 16
+  pub each : (id : ℕ) → id < 16 → IsWellFormed (slice_index_or slots id empty_slot)
