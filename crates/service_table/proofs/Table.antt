@@ -12,6 +12,9 @@ services_keep service.ShowStatus = refl
 services_keep service.ShowVersion = refl
 services_keep service.SelectRole = refl
 services_keep service.Reset = refl
+services_keep service.Zeroise = refl
+services_keep service.ZeroiseAll = refl
+services_keep service.ShowSlot = refl
 
 pub states_keep : StatesKeepTheirNumbers
 states_keep state.Off = refl

@@ -42,10 +42,14 @@ service_number service.ShowStatus = 0x04
 service_number service.ShowVersion = 0x05
 service_number service.SelectRole = 0x06
 service_number service.Reset = 0x07
+service_number service.Zeroise = 0x0c
+service_number service.ZeroiseAll = 0x0d
+service_number service.ShowSlot = 0x0e
 
 abbrev pub all_services : List Service
 all_services =
-    service.PowerOn ∷ service.TestStep ∷ service.RequestTests ∷ service.ShowStatus ∷ service.ShowVersion ∷ service.SelectRole ∷ service.Reset ∷ []
+    service.PowerOn ∷ service.TestStep ∷ service.RequestTests ∷ service.ShowStatus ∷ service.ShowVersion ∷ service.SelectRole ∷ service.Reset
+    ∷ service.Zeroise ∷ service.ZeroiseAll ∷ service.ShowSlot ∷ []
 
 abbrev pub service_numbered : ℕ → Option Service
 service_numbered number = find (λ s. service_number s == number) all_services

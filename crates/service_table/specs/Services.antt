@@ -18,6 +18,9 @@ states_of service.ShowStatus = all_states
 states_of service.ShowVersion = all_states
 states_of service.SelectRole = state.Approved ∷ state.Officer ∷ state.User ∷ []
 states_of service.Reset = state.Init ∷ state.SelfTest ∷ state.Approved ∷ state.Officer ∷ state.User ∷ []
+states_of service.Zeroise = state.Officer ∷ []
+states_of service.ZeroiseAll = state.Officer ∷ []
+states_of service.ShowSlot = state.Officer ∷ state.User ∷ []
 
 abbrev pub is_permitted : Service → State → Bool
 is_permitted asked found = list_any (λ s. state_number s == state_number found) (states_of asked)

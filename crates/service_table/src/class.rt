@@ -24,6 +24,9 @@ pub fn class_of(service: Service) -> Class
         | Service::ShowStatus
         | Service::ShowVersion
         | Service::SelectRole
-        | Service::Reset => Class::Nothing,
+        | Service::Reset
+        | Service::Zeroise
+        | Service::ZeroiseAll
+        | Service::ShowSlot => Class::Nothing,
     }
 }

@@ -20,8 +20,14 @@ pub enum Service {
     ShowVersion,
     /// Takes a role, or none.
     SelectRole,
-    /// Back to Init.
+    /// Back to Init; all slots are zero then.
     Reset,
+    /// Makes a slot zero.
+    Zeroise,
+    /// Makes all slots zero.
+    ZeroiseAll,
+    /// Shows what a slot holds, but for its bytes.
+    ShowSlot,
 }
 
 impl Service {
@@ -37,6 +43,9 @@ impl Service {
             Service::ShowVersion => 0x05,
             Service::SelectRole => 0x06,
             Service::Reset => 0x07,
+            Service::Zeroise => 0x0c,
+            Service::ZeroiseAll => 0x0d,
+            Service::ShowSlot => 0x0e,
         }
     }
 }
@@ -53,6 +62,9 @@ pub fn service_of(number: u8) -> Option<Service>
         0x05 => Some(Service::ShowVersion),
         0x06 => Some(Service::SelectRole),
         0x07 => Some(Service::Reset),
+        0x0c => Some(Service::Zeroise),
+        0x0d => Some(Service::ZeroiseAll),
+        0x0e => Some(Service::ShowSlot),
         _ => None,
     }
 }
@@ -73,5 +85,7 @@ pub fn permitted(service: Service, state: State) -> bool
         Service::ShowStatus | Service::ShowVersion => true,
         Service::SelectRole => matches!(&state, State::Approved | State::Officer | State::User),
         Service::Reset => !matches!(&state, State::Off),
+        Service::Zeroise | Service::ZeroiseAll => matches!(&state, State::Officer),
+        Service::ShowSlot => matches!(&state, State::Officer | State::User),
     }
 }

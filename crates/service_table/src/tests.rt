@@ -2,7 +2,7 @@
 use crate::{Service, State, permitted, service_of};
 
 // A row for each service: its number, and whether it is permitted in the states 0 to 5.
-const ROWS: [(u8, [bool; 6]); 7] = [
+const ROWS: [(u8, [bool; 6]); 10] = [
     (0x01, [true, false, false, false, false, false]),
     (0x02, [false, false, true, false, false, false]),
     (0x03, [false, true, false, true, true, true]),
@@ -10,6 +10,9 @@ const ROWS: [(u8, [bool; 6]); 7] = [
     (0x05, [true, true, true, true, true, true]),
     (0x06, [false, false, false, true, true, true]),
     (0x07, [false, true, true, true, true, true]),
+    (0x0c, [false, false, false, false, true, false]),
+    (0x0d, [false, false, false, false, true, false]),
+    (0x0e, [false, false, false, false, true, true]),
 ];
 
 fn permitted_by_number(service: Service, state: u8) -> Option<bool> {
