@@ -1,6 +1,7 @@
 -- A step keeps the rules.
 use Rattle.std.proofs.Common.{◌≡◌, ◌≢◌, ◌≤◌, ◌+◌, ℕ, List, Bool, true, false, Option, Some, None, length, refl, arith, if◌then◌else◌}
 use Rattle.std.specs.Prelude.{◌==◌, ◌&&◌, nat_le, nat_lt, slice_index}
+use Rattle.std.specs.Option.{option_map}
 use Rattle.std.specs.Int.{from_be_bytes, w32}
 use Rattle.std.proofs.lemmas.Bool.Decides.{nat_tests}
 use Rattle.service_table.specs.declared.service.Service.{Service}
@@ -12,9 +13,11 @@ use Rattle.service_table.specs.Numbers.{service_numbered}
 use Rattle.service_table.specs.Services.{is_permitted}
 use Rattle.module_frames.specs.declared.request.Request.{Request}
 use Rattle.module_frames.specs.declared.request.Request.TheVariants as request
-use Rattle.module_frames.specs.Requests.{request_of}
+use Rattle.module_frames.specs.Requests.{request_of, slot_of}
+use Rattle.ssp_slots.specs.Slots.{empty_slot}
+use Rattle.ssp_slots.proofs.WellFormedSlots.{AreWellFormed-set, AreWellFormed-empty}
 use Rattle.state_model.specs.MachineState.{MachineState, IsWellFormed, IsReturn}
-use Rattle.state_model.specs.Step.{step, asked, refused, ordered, power_on, request_tests, test_step, select_role, role_state, return_from, reset, StepsKeepTheRules}
+use Rattle.state_model.specs.Step.{step, asked, refused, ordered, power_on, request_tests, test_step, select_role, role_state, return_from, reset, zeroise, zeroise_all, StepsKeepTheRules}
 
 -- what the table says of the state in which a service is permitted
 pub off_for_power_on : (found : State) → is_permitted service.PowerOn found ≡ true → found ≡ state.Off
@@ -50,13 +53,14 @@ role_is_settled role =
     outer (role == 0)
 
 pub power_on_kept : (s : MachineState) (period : ℕ) → IsWellFormed s → s.state ≡ state.Off → period ≤ 1000000 → IsWellFormed (power_on s period)
-power_on_kept s period rules off small = record { period = small; testing = λ e. cc; settled = λ _. rules.settled (λ e. cc) }
+power_on_kept s period rules off small = record { period = small; testing = λ e. cc; settled = λ _. rules.settled (λ e. cc); slots = rules.slots }
 
 pub request_tests_kept : (s : MachineState) → IsWellFormed s → is_permitted service.RequestTests s.state ≡ true → IsWellFormed (request_tests s)
 request_tests_kept s rules allowed = record {
   period = rules.period;
   testing = λ _. (return_for_request_tests s.state allowed, omega arith);
   settled = λ other. absurd (other refl);
+  slots = rules.slots;
 }
 
 test_step_goes_on : (s : MachineState) (more : Bool) → nat_lt s.step 2 ≡ more → IsWellFormed s → s.state ≡ state.SelfTest
@@ -65,11 +69,13 @@ test_step_goes_on s true more rules testing = record {
   period = rules.period;
   testing = λ _. ((rules.testing testing).0, grind (arith, nat_tests));
   settled = λ other. absurd (other testing);
+  slots = rules.slots;
 }
 test_step_goes_on s false more rules testing = record {
   period = rules.period;
   testing = λ e. absurd (return_is_settled s.back (rules.testing testing).0 e);
   settled = λ _. (refl, refl);
+  slots = rules.slots;
 }
 
 pub test_step_kept : (s : MachineState) → IsWellFormed s → s.state ≡ state.SelfTest → IsWellFormed (test_step s)
@@ -80,10 +86,18 @@ select_role_kept s role rules settled = record {
   period = rules.period;
   testing = λ e. absurd (role_is_settled role e);
   settled = λ _. rules.settled settled;
+  slots = rules.slots;
 }
 
 pub reset_kept : (s : MachineState) → IsWellFormed s → IsWellFormed (reset s)
-reset_kept s rules = record { period = rules.period; testing = λ e. cc; settled = λ _. (refl, refl) }
+reset_kept s rules = record { period = rules.period; testing = λ e. cc; settled = λ _. (refl, refl); slots = AreWellFormed-empty }
+
+pub zeroise_kept : (s : MachineState) (slot : ℕ) → IsWellFormed s → IsWellFormed (zeroise s slot)
+zeroise_kept s slot rules =
+    record { period = rules.period; testing = rules.testing; settled = rules.settled; slots = AreWellFormed-set s.vault.slots slot empty_slot rules.slots refl }
+
+pub zeroise_all_kept : (s : MachineState) → IsWellFormed s → IsWellFormed (zeroise_all s)
+zeroise_all_kept s rules = record { period = rules.period; testing = rules.testing; settled = rules.settled; slots = AreWellFormed-empty }
 
 -- a request is read only where its numbers are in range
 read_power_on_kept : (s : MachineState) (long : Bool) (period : ℕ) → IsWellFormed s → s.state ≡ state.Off
@@ -99,6 +113,11 @@ read_kept : (s : MachineState) (good : Bool) (what : Request) → IsWellFormed s
 read_kept s true what rules done = done
 read_kept s false what rules done = rules
 
+slot_kept : (s : MachineState) (what : ℕ → Request) (slot : Option ℕ) → IsWellFormed s → ((n : ℕ) → IsWellFormed (asked s (Some (what n))).machine)
+    → IsWellFormed (asked s (option_map what slot)).machine
+slot_kept s what None rules done = rules
+slot_kept s what (Some slot) rules done = done slot
+
 asked_kept : (s : MachineState) (found : Service) (body : List ℕ) → IsWellFormed s → is_permitted found s.state ≡ true
     → IsWellFormed (asked s (request_of found body)).machine
 asked_kept s service.PowerOn body rules allowed = read_power_on_kept s (length body == 4) (from_be_bytes w32 body) rules (off_for_power_on s.state allowed)
@@ -110,6 +129,9 @@ asked_kept s service.SelectRole body rules allowed =
     read_kept s (length body == 1 && nat_le (slice_index body 0) 2) (request.SelectRole (slice_index body 0)) rules
     (select_role_kept s (slice_index body 0) rules (not_testing_for_select_role s.state allowed))
 asked_kept s service.Reset body rules allowed = read_kept s (length body == 0) request.Reset rules (reset_kept s rules)
+asked_kept s service.Zeroise body rules allowed = slot_kept s (λ slot. request.Zeroise slot) (slot_of body) rules (λ slot. zeroise_kept s slot rules)
+asked_kept s service.ZeroiseAll body rules allowed = read_kept s (length body == 0) request.ZeroiseAll rules (zeroise_all_kept s rules)
+asked_kept s service.ShowSlot body rules allowed = slot_kept s (λ slot. request.ShowSlot slot) (slot_of body) rules (λ slot. rules)
 
 choice_kept : (s : MachineState) (found : Service) (allowed : Bool) (body : List ℕ) → is_permitted found s.state ≡ allowed → IsWellFormed s
     → IsWellFormed (if allowed then asked s (request_of found body) else refused s status.NotInState).machine

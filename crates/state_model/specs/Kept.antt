@@ -1,5 +1,6 @@
 -- What the fields of a module show.
 use Rattle.std.specs.Prelude.{ℕ}
+use Rattle.ssp_slots.specs.Slots.{Contents}
 use Rattle.service_table.specs.declared.state.State.{State}
 
 pub record Kept : Type 0 where
@@ -7,3 +8,4 @@ pub record Kept : Type 0 where
   pub back : State
   pub step : ℕ
   pub period : ℕ
+  pub vault : Contents

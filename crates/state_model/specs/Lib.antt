@@ -1,3 +1,4 @@
+pub mod SlotBlock
 pub mod MachineState
 pub mod Step
 pub mod Kept

@@ -2,18 +2,21 @@
 use Rattle.std.specs.Prelude.{◌≡◌, ◌≢◌, ◌≤◌, ℕ}
 use Rattle.service_table.specs.declared.state.State.{State}
 use Rattle.service_table.specs.declared.state.State.TheVariants as state
+use Rattle.ssp_slots.specs.Slots.{Contents, empty_vault, AreWellFormed}
 use Rattle.module_frames.specs.PublicState.{PublicState}
 
--- all that the machine keeps: the state, the state to return to from self-tests and how many of them were done, and the period
+-- all that the machine keeps: the state, the state to return to from self-tests and how many of them were done, the period, and
+-- sixteen slots
 pub record MachineState : Type 0 where
   pub state : State
   pub back : State
   pub step : ℕ
   pub period : ℕ
+  pub vault : Contents
 
--- not powered, and all else zero
+-- not powered, and all else zero or empty
 abbrev pub initial_state : MachineState
-initial_state = record { state = state.Off; back = state.Off; step = 0; period = 0 }
+initial_state = record { state = state.Off; back = state.Off; step = 0; period = 0; vault = empty_vault }
 
 -- a state to which self-tests return
 abbrev pub IsReturn : State → Type 0
@@ -29,6 +32,8 @@ pub record IsWellFormed (s : MachineState) : Type 0 where
   pub testing : s.state ≡ state.SelfTest → IsReturn s.back × (s.step ≤ 2)
   -- else both are zero
   pub settled : s.state ≢ state.SelfTest → (s.back ≡ state.Off) × (s.step ≡ 0)
+  -- each slot is empty, and zero then, or holds a parameter that fits
+  pub slots : AreWellFormed s.vault.slots
 
 -- the part that everyone may see
 abbrev pub public_of : MachineState → PublicState

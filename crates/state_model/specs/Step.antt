@@ -13,6 +13,8 @@ use Rattle.module_frames.specs.Requests.{request_of}
 use Rattle.module_frames.specs.CommandFrames.{CommandFrame}
 use Rattle.module_frames.specs.ReplyFrames.{ReplyFrame}
 use Rattle.module_frames.specs.PublicState.{status_block, version_block, no_block}
+use Rattle.ssp_slots.specs.Slots.{empty_slot, empty_vault, slot_in, with_slot}
+use Rattle.state_model.specs.SlotBlock.{slot_block}
 use Rattle.state_model.specs.MachineState.{MachineState, IsWellFormed, public_of}
 
 -- what a step leaves, and what it answers
@@ -57,11 +59,19 @@ role_state role = if role == 0 then state.Approved else if role == 1 then state.
 abbrev pub select_role : MachineState → ℕ → MachineState
 select_role s role = record s { state = role_state role }
 
--- Reset: to Init; the period stays
+-- Reset: to Init, and all slots are empty; the period stays
 abbrev pub reset : MachineState → MachineState
-reset s = record s { state = state.Init; back = state.Off; step = 0 }
+reset s = record s { state = state.Init; back = state.Off; step = 0; vault = empty_vault }
 
--- what is done for a request; two services tell something
+-- Zeroise: the slot is empty, and no other changes
+abbrev pub zeroise : MachineState → ℕ → MachineState
+zeroise s slot = record s { vault = with_slot s.vault slot empty_slot }
+
+-- ZeroiseAll: all slots are empty
+abbrev pub zeroise_all : MachineState → MachineState
+zeroise_all s = record s { vault = empty_vault }
+
+-- what is done for a request; three services tell something
 abbrev pub done_for : MachineState → Request → Stepped
 done_for s (request.PowerOn period) = done (power_on s period) no_block
 done_for s request.TestStep = done (test_step s) no_block
@@ -70,6 +80,9 @@ done_for s request.ShowStatus = done s (status_block (public_of s))
 done_for s request.ShowVersion = done s version_block
 done_for s (request.SelectRole role) = done (select_role s role) no_block
 done_for s request.Reset = done (reset s) no_block
+done_for s (request.Zeroise slot) = done (zeroise s slot) no_block
+done_for s request.ZeroiseAll = done (zeroise_all s) no_block
+done_for s (request.ShowSlot slot) = done s (slot_block (slot_in s.vault slot))
 
 -- The one order: a number that is no service's, a service that isn't permitted in this state, a body that isn't of its
 -- form. The first of these that holds is the reason of refusal.

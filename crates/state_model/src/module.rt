@@ -4,12 +4,16 @@ ghost use Rattle.service_table.specs.Services.{is_permitted};
 ghost use Rattle.module_frames.specs.Requests.{IsInRange};
 ghost use Rattle.module_frames.specs.PublicState.{status_block, no_block};
 ghost use Rattle.state_model.specs.MachineState.{MachineState, initial_state, public_of};
-ghost use Rattle.state_model.specs.Step.{step, done_for, power_on, request_tests, test_step, select_role, reset, return_from, role_state};
+ghost use Rattle.state_model.specs.Step.{step, done_for, power_on, request_tests, test_step, select_role, reset, zeroise, zeroise_all, return_from, role_state};
+ghost use Rattle.ssp_slots.specs.Slots.{slot_in};
+ghost use Rattle.state_model.specs.SlotBlock.{header_block, slot_block};
 ghost use Rattle.state_model.specs.Asking.{MayBeAsked};
 ghost use Rattle.state_model.specs.Represents.{Represents, Leaves, Replies};
 
+use bits_core::{Header, SlotId};
 use module_frames::{Command, Reply, Request, read_request};
 use service_table::{Service, State, Status, permitted, service_of};
+use ssp_slots::Vault;
 use std::alloc::{AllocError, Global};
 use std::marker::Model;
 
@@ -20,6 +24,7 @@ pub struct Module {
     back: State,
     step: u8,
     period: u32,
+    vault: Vault,
 }
 
 impl Model for Module {
@@ -47,6 +52,28 @@ fn return_from(state: State) -> State
     }
 }
 
+// The status block of a full slot.
+fn header_block(length: usize, header: &Header) -> [u8; 12]
+    requires { length ≤ 64 }
+    ensures { result ≡ header_block length header.now }
+{
+    let uses = header.uses.to_be_bytes();
+    [
+        1,
+        header.kind.number(),
+        header.domain.number(),
+        u8::from(header.export),
+        length as u8,
+        0,
+        0,
+        0,
+        uses[0],
+        uses[1],
+        uses[2],
+        uses[3],
+    ]
+}
+
 // The state of a role: none, the crypto officer's, the user's.
 fn role_state(role: u8) -> State
     ensures { result ≡ role_state role }
@@ -59,15 +86,17 @@ fn role_state(role: u8) -> State
 }
 
 impl Module {
-    /// A module that isn't powered. It takes no memory as long as it has no slots.
-    pub fn open(_alloc: Global) -> Result<Module, AllocError>
+    /// A module that isn't powered, with sixteen empty slots.
+    pub fn open(alloc: Global) -> Result<Module, AllocError>
         ensures { IfOk result (λ opened. Represents opened initial_state) }
     {
+        let vault = Vault::new(alloc)?;
         Ok(Module {
             state: State::Off,
             back: State::Off,
             step: 0,
             period: 0,
+            vault,
         })
     }
 
@@ -120,13 +149,39 @@ impl Module {
         self.state = role_state(role);
     }
 
-    // Reset: to Init. The period stays.
+    // Reset: to Init, and all slots are empty. The period stays.
     fn reset(&mut self)
         ensures { (s : MachineState) → Represents self.old s → Represents self.new (reset s) }
     {
         self.state = State::Init;
         self.back = State::Off;
         self.step = 0;
+        self.vault.zeroise_all();
+    }
+
+    // Zeroise: the slot is empty.
+    fn zeroise(&mut self, slot: SlotId)
+        ensures { (s : MachineState) → Represents self.old s → Represents self.new (zeroise s slot) }
+    {
+        self.vault.zeroise(slot);
+    }
+
+    // ZeroiseAll: all slots are empty.
+    fn zeroise_all(&mut self)
+        ensures { (s : MachineState) → Represents self.old s → Represents self.new (zeroise_all s) }
+    {
+        self.vault.zeroise_all();
+    }
+
+    // ShowSlot: what the slot holds, but for its bytes.
+    fn show_slot(&self, slot: SlotId, block: &mut [u8; 12])
+        requires { block.old ≡ no_block }
+        ensures { (s : MachineState) → Represents self.now s → block.new ≡ slot_block (slot_in s.vault slot) }
+    {
+        let shown = self.vault.show(slot);
+        if let Some(header) = shown.header {
+            *block = header_block(shown.length, &header);
+        }
     }
 
     // ShowStatus: the public state.
@@ -154,6 +209,9 @@ impl Module {
             Request::ShowVersion => *block = VERSION,
             Request::SelectRole { role } => self.select_role(role),
             Request::Reset => self.reset(),
+            Request::Zeroise { slot } => self.zeroise(slot),
+            Request::ZeroiseAll => self.zeroise_all(),
+            Request::ShowSlot { slot } => self.show_slot(slot, block),
         }
     }
 
