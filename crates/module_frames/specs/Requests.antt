@@ -1,63 +1,130 @@
--- The forms of bodies: what request a body spells for a service, and else none.
-use Rattle.std.specs.Prelude.{ℕ, ◌≤◌, ◌<◌, ◌==◌, ◌&&◌, nat_le, nat_lt, List, length, slice_index, Option, Some, None, if◌then◌else◌}
-use Rattle.std.specs.Option.{option_map}
+-- The forms of bodies: what a body asks of a service, and else nothing.
+use Rattle.std.specs.Prelude.{ℕ, ◌≤◌, ◌<◌, ◌==◌, ◌&&◌, nat_le, nat_lt, List, [], ◌∷◌, length, slice_index, Option, Some, None, IsTrue, if◌then◌else◌}
+use Rattle.std.specs.Option.{option_map, option_and_then}
 use Rattle.std.specs.Int.{from_be_bytes, w32}
+use Rattle.bits_core.specs.declared.parameter.Header.{Header}
+use Rattle.bits_core.specs.declared.parameter.Kind.{Kind}
+use Rattle.bits_core.specs.declared.parameter.Domain.{Domain}
+use Rattle.bits_core.specs.Parameters.{kind_of, domain_of, length_fits}
 use Rattle.service_table.specs.declared.service.Service.{Service}
 use Rattle.service_table.specs.declared.service.Service.TheVariants as service
 use Rattle.module_frames.specs.declared.request.Request.{Request}
 use Rattle.module_frames.specs.declared.request.Request.TheVariants as request
 
+-- what a command asks for
+pub data Asked : Type 0 where
+  PowerOn : (period : ℕ) → Asked
+  TestStep : Asked
+  RequestTests : Asked
+  ShowStatus : Asked
+  ShowVersion : Asked
+  SelectRole : (role : ℕ) → Asked
+  Reset : Asked
+  EntryBegin : (slot : ℕ) (header : Header) (long : ℕ) → Asked
+  EntryBytes : (piece : List ℕ) → Asked
+  EntryAbort : Asked
+  Zeroise : (slot : ℕ) → Asked
+  ZeroiseAll : Asked
+  ShowSlot : (slot : ℕ) → Asked
+
+abbrev pub asked_of : Request → Asked
+asked_of (request.PowerOn period) = PowerOn period
+asked_of request.TestStep = TestStep
+asked_of request.RequestTests = RequestTests
+asked_of request.ShowStatus = ShowStatus
+asked_of request.ShowVersion = ShowVersion
+asked_of (request.SelectRole role) = SelectRole role
+asked_of request.Reset = Reset
+asked_of (request.EntryBegin slot header long) = EntryBegin slot header long
+asked_of (request.EntryBytes piece) = EntryBytes piece.now
+asked_of request.EntryAbort = EntryAbort
+asked_of (request.Zeroise slot) = Zeroise slot
+asked_of request.ZeroiseAll = ZeroiseAll
+asked_of (request.ShowSlot slot) = ShowSlot slot
+
 -- a period of four bytes, at most 1,000,000
-abbrev pub power_on_of : List ℕ → Option Request
+abbrev pub power_on_of : List ℕ → Option Asked
 power_on_of body =
     if length body == 4 && nat_le (from_be_bytes w32 body) 1000000
-    then Some (request.PowerOn (from_be_bytes w32 body))
+    then Some (PowerOn (from_be_bytes w32 body))
     else None
 
 -- a role of one byte, at most 2
-abbrev pub select_role_of : List ℕ → Option Request
+abbrev pub select_role_of : List ℕ → Option Asked
 select_role_of body =
     if length body == 1 && nat_le (slice_index body 0) 2
-    then Some (request.SelectRole (slice_index body 0))
+    then Some (SelectRole (slice_index body 0))
     else None
+
+-- an entry of known kind and domain: a slot below 16, a flag, at least one use, and a length that fits
+abbrev pub entry_of : ℕ → Option Kind → Option Domain → ℕ → ℕ → ℕ → Option Asked
+entry_of slot (Some kind) (Some domain) export uses long =
+    if nat_lt slot 16 && (nat_le export 1 && (nat_le 1 uses && length_fits kind domain long))
+    then Some (EntryBegin slot (record { kind = kind; domain = domain; export = export == 1; uses = uses }) long)
+    else None
+entry_of slot None domain export uses long = None
+entry_of slot (Some kind) None export uses long = None
+
+abbrev pub begin_of : ℕ → ℕ → ℕ → ℕ → ℕ → ℕ → Option Asked
+begin_of slot kind domain export uses long = entry_of slot (kind_of kind) (domain_of domain) export uses long
+
+-- slot, kind, domain and export flag in a byte each, uses in four bytes, length in a byte
+abbrev pub entry_begin_of : List ℕ → Option Asked
+entry_begin_of body =
+    if length body == 9
+    then begin_of (slice_index body 0) (slice_index body 1) (slice_index body 2) (slice_index body 3)
+    (from_be_bytes w32 (slice_index body 4 ∷ slice_index body 5 ∷ slice_index body 6 ∷ slice_index body 7 ∷ [])) (slice_index body 8)
+    else None
+
+-- 1 to 64 bytes of a parameter
+abbrev pub piece_of : List ℕ → Option Asked
+piece_of body = if nat_le 1 (length body) && nat_le (length body) 64 then Some (EntryBytes body) else None
 
 -- the number of a slot, of one byte, at most 15
 abbrev pub slot_of : List ℕ → Option ℕ
 slot_of body = if length body == 1 && nat_lt (slice_index body 0) 16 then Some (slice_index body 0) else None
 
 -- a body without bytes
-abbrev pub empty_of : List ℕ → Request → Option Request
+abbrev pub empty_of : List ℕ → Asked → Option Asked
 empty_of body asked = if length body == 0 then Some asked else None
 
-abbrev pub request_of : Service → List ℕ → Option Request
+abbrev pub request_of : Service → List ℕ → Option Asked
 request_of service.PowerOn body = power_on_of body
-request_of service.TestStep body = empty_of body request.TestStep
-request_of service.RequestTests body = empty_of body request.RequestTests
-request_of service.ShowStatus body = empty_of body request.ShowStatus
-request_of service.ShowVersion body = empty_of body request.ShowVersion
+request_of service.TestStep body = empty_of body TestStep
+request_of service.RequestTests body = empty_of body RequestTests
+request_of service.ShowStatus body = empty_of body ShowStatus
+request_of service.ShowVersion body = empty_of body ShowVersion
 request_of service.SelectRole body = select_role_of body
-request_of service.Reset body = empty_of body request.Reset
-request_of service.Zeroise body = option_map (λ slot. request.Zeroise slot) (slot_of body)
-request_of service.ZeroiseAll body = empty_of body request.ZeroiseAll
-request_of service.ShowSlot body = option_map (λ slot. request.ShowSlot slot) (slot_of body)
+request_of service.Reset body = empty_of body Reset
+request_of service.EntryBegin body = entry_begin_of body
+request_of service.EntryBytes body = piece_of body
+request_of service.EntryAbort body = empty_of body EntryAbort
+request_of service.Zeroise body = option_map (λ slot. Zeroise slot) (slot_of body)
+request_of service.ZeroiseAll body = empty_of body ZeroiseAll
+request_of service.ShowSlot body = option_map (λ slot. ShowSlot slot) (slot_of body)
 
 -- the numbers of a request are within their bounds
-abbrev pub IsInRange : Request → Type 0
-IsInRange (request.PowerOn period) = period ≤ 1000000
-IsInRange (request.SelectRole role) = role ≤ 2
-IsInRange (request.Zeroise slot) = slot < 16
-IsInRange (request.ShowSlot slot) = slot < 16
+abbrev pub IsInRange : Asked → Type 0
+IsInRange (PowerOn period) = period ≤ 1000000
+IsInRange (SelectRole role) = role ≤ 2
+IsInRange (EntryBegin slot header long) = (slot < 16) × (1 ≤ header.uses) × IsTrue (length_fits header.kind header.domain long)
+IsInRange (EntryBytes piece) = (1 ≤ length piece) × (length piece ≤ 64)
+IsInRange (Zeroise slot) = slot < 16
+IsInRange (ShowSlot slot) = slot < 16
 IsInRange other = Unit {0}
 
 -- the service that a request is for
-abbrev pub service_for : Request → Service
-service_for (request.PowerOn period) = service.PowerOn
-service_for request.TestStep = service.TestStep
-service_for request.RequestTests = service.RequestTests
-service_for request.ShowStatus = service.ShowStatus
-service_for request.ShowVersion = service.ShowVersion
-service_for (request.SelectRole role) = service.SelectRole
-service_for request.Reset = service.Reset
-service_for (request.Zeroise slot) = service.Zeroise
-service_for request.ZeroiseAll = service.ZeroiseAll
-service_for (request.ShowSlot slot) = service.ShowSlot
+abbrev pub service_for : Asked → Service
+service_for (PowerOn period) = service.PowerOn
+service_for TestStep = service.TestStep
+service_for RequestTests = service.RequestTests
+service_for ShowStatus = service.ShowStatus
+service_for ShowVersion = service.ShowVersion
+service_for (SelectRole role) = service.SelectRole
+service_for Reset = service.Reset
+service_for (EntryBegin slot header long) = service.EntryBegin
+service_for (EntryBytes piece) = service.EntryBytes
+service_for EntryAbort = service.EntryAbort
+service_for (Zeroise slot) = service.Zeroise
+service_for ZeroiseAll = service.ZeroiseAll
+service_for (ShowSlot slot) = service.ShowSlot

@@ -1,37 +1,61 @@
 // What the body of a command asks for.
-ghost use Rattle.std.specs.Prelude.{◌≡◌, IfSome};
-ghost use Rattle.module_frames.specs.Requests.{request_of, power_on_of, select_role_of, slot_of, service_for, IsInRange};
+ghost use Rattle.std.specs.Prelude.{◌≡◌, ◌<◌, IfSome};
+ghost use Rattle.std.specs.Option.{option_map};
+ghost use Rattle.module_frames.specs.Requests.{asked_of, request_of, power_on_of, select_role_of, entry_begin_of, begin_of, piece_of, slot_of, service_for, IsInRange};
 
-use bits_core::SlotId;
+use bits_core::{Domain, Header, Kind, SlotId, fits};
 use service_table::Service;
 
 /// The largest period that a module may have.
 pub const PERIOD_MAX: u32 = 1_000_000;
 
-/// A command whose body was read.
-#[derive(Clone, Copy, Debug, PartialEq, Eq)]
-pub enum Request {
+/// The longest piece of a parameter that one command may bring, in bytes.
+pub const PIECE_MAX: usize = 64;
+
+/// A command whose body was read. Its bytes may be those of a parameter, so it isn't printed or compared.
+#[derive(Clone, Copy)]
+pub enum Request<'a> {
     /// Power on, with tests again after so many uses, or with 0 never.
-    PowerOn { period: u32 },
+    PowerOn {
+        period: u32,
+    },
     TestStep,
     RequestTests,
     ShowStatus,
     ShowVersion,
     /// Take no role (0), the crypto officer's (1) or the user's (2).
-    SelectRole { role: u8 },
+    SelectRole {
+        role: u8,
+    },
     Reset,
-    Zeroise { slot: SlotId },
+    /// Enter a parameter of this length for a slot.
+    EntryBegin {
+        slot: SlotId,
+        header: Header,
+        length: usize,
+    },
+    /// The next bytes of the parameter.
+    EntryBytes {
+        piece: &'a [u8],
+    },
+    EntryAbort,
+    Zeroise {
+        slot: SlotId,
+    },
     ZeroiseAll,
-    ShowSlot { slot: SlotId },
+    ShowSlot {
+        slot: SlotId,
+    },
 }
 
 /// The request that the body spells for the service. `None` exactly where the body isn't of the service's form:
-/// a number of four bytes, at most 1,000,000, for `PowerOn`, a byte of at most 2 for `SelectRole`, the byte of a
-/// slot's number for `Zeroise` and `ShowSlot`, and no byte for the others.
-pub fn read_request(service: Service, body: &[u8]) -> Option<Request>
-    ensures read { result ≡ request_of service body.now }
-    ensures in_range { IfSome result IsInRange }
-    ensures asked { IfSome result (λ request. service_for request ≡ service) }
+/// for `PowerOn` a number of four bytes, at most 1,000,000; for `SelectRole` a byte of at most 2; for `EntryBegin`
+/// slot, kind, domain, export flag, uses (four bytes, at least 1) and a length that fits; for `EntryBytes` 1 to 64
+/// bytes; for `Zeroise` and `ShowSlot` the byte of a slot's number, at most 15; and no byte for the others.
+pub fn read_request<'a>(service: Service, body: &'a [u8]) -> Option<Request<'a>>
+    ensures read { option_map asked_of result ≡ request_of service body.now }
+    ensures in_range { IfSome result (λ request. IsInRange (asked_of request)) }
+    ensures asked { IfSome result (λ request. service_for (asked_of request) ≡ service) }
 {
     match service {
         Service::PowerOn => read_power_on(body),
@@ -41,6 +65,9 @@ pub fn read_request(service: Service, body: &[u8]) -> Option<Request>
         Service::ShowVersion => body.is_empty().then_some(Request::ShowVersion),
         Service::SelectRole => read_select_role(body),
         Service::Reset => body.is_empty().then_some(Request::Reset),
+        Service::EntryBegin => read_entry_begin(body),
+        Service::EntryBytes => read_piece(body),
+        Service::EntryAbort => body.is_empty().then_some(Request::EntryAbort),
         Service::Zeroise => Some(Request::Zeroise {
             slot: read_slot(body)?,
         }),
@@ -51,10 +78,10 @@ pub fn read_request(service: Service, body: &[u8]) -> Option<Request>
     }
 }
 
-fn read_power_on(body: &[u8]) -> Option<Request>
-    ensures read { result ≡ power_on_of body.now }
-    ensures in_range { IfSome result IsInRange }
-    ensures asked { IfSome result (λ request. service_for request ≡ Service.PowerOn) }
+fn read_power_on(body: &[u8]) -> Option<Request<'_>>
+    ensures read { option_map asked_of result ≡ power_on_of body.now }
+    ensures in_range { IfSome result (λ request. IsInRange (asked_of request)) }
+    ensures asked { IfSome result (λ request. service_for (asked_of request) ≡ Service.PowerOn) }
 {
     match body {
         [a, b, c, d] => {
@@ -65,10 +92,10 @@ fn read_power_on(body: &[u8]) -> Option<Request>
     }
 }
 
-fn read_select_role(body: &[u8]) -> Option<Request>
-    ensures read { result ≡ select_role_of body.now }
-    ensures in_range { IfSome result IsInRange }
-    ensures asked { IfSome result (λ request. service_for request ≡ Service.SelectRole) }
+fn read_select_role(body: &[u8]) -> Option<Request<'_>>
+    ensures read { option_map asked_of result ≡ select_role_of body.now }
+    ensures in_range { IfSome result (λ request. IsInRange (asked_of request)) }
+    ensures asked { IfSome result (λ request. service_for (asked_of request) ≡ Service.SelectRole) }
 {
     match body {
         [role] => (*role <= 2).then_some(Request::SelectRole { role: *role }),
@@ -76,8 +103,66 @@ fn read_select_role(body: &[u8]) -> Option<Request>
     }
 }
 
+fn read_entry_begin(body: &[u8]) -> Option<Request<'_>>
+    ensures read { option_map asked_of result ≡ entry_begin_of body.now }
+    ensures in_range { IfSome result (λ request. IsInRange (asked_of request)) }
+    ensures asked { IfSome result (λ request. service_for (asked_of request) ≡ Service.EntryBegin) }
+{
+    match body {
+        [slot, kind, domain, export, a, b, c, d, length] => {
+            let uses = u32::from_be_bytes([*a, *b, *c, *d]);
+            begin(*slot, *kind, *domain, *export, uses, *length)
+        }
+        _ => None,
+    }
+}
+
+fn begin<'a>(
+    slot: u8,
+    kind: u8,
+    domain: u8,
+    export: u8,
+    uses: u32,
+    length: u8,
+) -> Option<Request<'a>>
+    ensures read { option_map asked_of result ≡ begin_of slot kind domain export uses length }
+    ensures in_range { IfSome result (λ request. IsInRange (asked_of request)) }
+    ensures asked { IfSome result (λ request. service_for (asked_of request) ≡ Service.EntryBegin) }
+{
+    let slot = SlotId::new(slot)?;
+    let kind = Kind::from_number(kind)?;
+    let domain = Domain::from_number(domain)?;
+    let length = usize::from(length);
+    if export > 1 || uses == 0 || !fits(kind, domain, length) {
+        return None;
+    }
+    let header = Header {
+        kind,
+        domain,
+        export: export == 1,
+        uses,
+    };
+    Some(Request::EntryBegin {
+        slot,
+        header,
+        length,
+    })
+}
+
+fn read_piece(body: &[u8]) -> Option<Request<'_>>
+    ensures read { option_map asked_of result ≡ piece_of body.now }
+    ensures in_range { IfSome result (λ request. IsInRange (asked_of request)) }
+    ensures asked { IfSome result (λ request. service_for (asked_of request) ≡ Service.EntryBytes) }
+{
+    if body.is_empty() || body.len() > PIECE_MAX {
+        return None;
+    }
+    Some(Request::EntryBytes { piece: body })
+}
+
 fn read_slot(body: &[u8]) -> Option<SlotId>
-    ensures { result ≡ slot_of body.now }
+    ensures read { result ≡ slot_of body.now }
+    ensures in_range { IfSome result (λ slot. slot < 16) }
 {
     match body {
         [slot] => SlotId::new(*slot),

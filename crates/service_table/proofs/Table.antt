@@ -12,6 +12,9 @@ services_keep service.ShowStatus = refl
 services_keep service.ShowVersion = refl
 services_keep service.SelectRole = refl
 services_keep service.Reset = refl
+services_keep service.EntryBegin = refl
+services_keep service.EntryBytes = refl
+services_keep service.EntryAbort = refl
 services_keep service.Zeroise = refl
 services_keep service.ZeroiseAll = refl
 services_keep service.ShowSlot = refl
@@ -23,6 +26,7 @@ states_keep state.SelfTest = refl
 states_keep state.Approved = refl
 states_keep state.Officer = refl
 states_keep state.User = refl
+states_keep state.Entry = refl
 
 pub payload_needs_a_role : PayloadNeedsARole
 payload_needs_a_role asked found gives allowed = cc

@@ -14,9 +14,10 @@ state_number state.SelfTest = 2
 state_number state.Approved = 3
 state_number state.Officer = 4
 state_number state.User = 5
+state_number state.Entry = 6
 
 abbrev pub all_states : List State
-all_states = state.Off ∷ state.Init ∷ state.SelfTest ∷ state.Approved ∷ state.Officer ∷ state.User ∷ []
+all_states = state.Off ∷ state.Init ∷ state.SelfTest ∷ state.Approved ∷ state.Officer ∷ state.User ∷ state.Entry ∷ []
 
 -- the state with this number, where one has it
 abbrev pub state_numbered : ℕ → Option State
@@ -27,9 +28,10 @@ status_number status.Ok = 0
 status_number status.UnknownService = 1
 status_number status.NotInState = 2
 status_number status.BadBody = 3
+status_number status.BadLength = 12
 
 abbrev pub all_statuses : List Status
-all_statuses = status.Ok ∷ status.UnknownService ∷ status.NotInState ∷ status.BadBody ∷ []
+all_statuses = status.Ok ∷ status.UnknownService ∷ status.NotInState ∷ status.BadBody ∷ status.BadLength ∷ []
 
 abbrev pub status_numbered : ℕ → Option Status
 status_numbered number = find (λ s. status_number s == number) all_statuses
@@ -42,6 +44,9 @@ service_number service.ShowStatus = 0x04
 service_number service.ShowVersion = 0x05
 service_number service.SelectRole = 0x06
 service_number service.Reset = 0x07
+service_number service.EntryBegin = 0x08
+service_number service.EntryBytes = 0x09
+service_number service.EntryAbort = 0x0b
 service_number service.Zeroise = 0x0c
 service_number service.ZeroiseAll = 0x0d
 service_number service.ShowSlot = 0x0e
@@ -49,7 +54,7 @@ service_number service.ShowSlot = 0x0e
 abbrev pub all_services : List Service
 all_services =
     service.PowerOn ∷ service.TestStep ∷ service.RequestTests ∷ service.ShowStatus ∷ service.ShowVersion ∷ service.SelectRole ∷ service.Reset
-    ∷ service.Zeroise ∷ service.ZeroiseAll ∷ service.ShowSlot ∷ []
+    ∷ service.EntryBegin ∷ service.EntryBytes ∷ service.EntryAbort ∷ service.Zeroise ∷ service.ZeroiseAll ∷ service.ShowSlot ∷ []
 
 abbrev pub service_numbered : ℕ → Option Service
 service_numbered number = find (λ s. service_number s == number) all_services

@@ -25,6 +25,9 @@ pub fn class_of(service: Service) -> Class
         | Service::ShowVersion
         | Service::SelectRole
         | Service::Reset
+        | Service::EntryBegin
+        | Service::EntryBytes
+        | Service::EntryAbort
         | Service::Zeroise
         | Service::ZeroiseAll
         | Service::ShowSlot => Class::Nothing,

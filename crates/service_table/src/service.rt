@@ -22,6 +22,12 @@ pub enum Service {
     SelectRole,
     /// Back to Init; all slots are zero then.
     Reset,
+    /// Begins the entry of a parameter.
+    EntryBegin,
+    /// Adds bytes to the parameter that is entered.
+    EntryBytes,
+    /// Gives the entry up.
+    EntryAbort,
     /// Makes a slot zero.
     Zeroise,
     /// Makes all slots zero.
@@ -43,6 +49,9 @@ impl Service {
             Service::ShowVersion => 0x05,
             Service::SelectRole => 0x06,
             Service::Reset => 0x07,
+            Service::EntryBegin => 0x08,
+            Service::EntryBytes => 0x09,
+            Service::EntryAbort => 0x0b,
             Service::Zeroise => 0x0c,
             Service::ZeroiseAll => 0x0d,
             Service::ShowSlot => 0x0e,
@@ -62,6 +71,9 @@ pub fn service_of(number: u8) -> Option<Service>
         0x05 => Some(Service::ShowVersion),
         0x06 => Some(Service::SelectRole),
         0x07 => Some(Service::Reset),
+        0x08 => Some(Service::EntryBegin),
+        0x09 => Some(Service::EntryBytes),
+        0x0b => Some(Service::EntryAbort),
         0x0c => Some(Service::Zeroise),
         0x0d => Some(Service::ZeroiseAll),
         0x0e => Some(Service::ShowSlot),
@@ -85,7 +97,10 @@ pub fn permitted(service: Service, state: State) -> bool
         Service::ShowStatus | Service::ShowVersion => true,
         Service::SelectRole => matches!(&state, State::Approved | State::Officer | State::User),
         Service::Reset => !matches!(&state, State::Off),
-        Service::Zeroise | Service::ZeroiseAll => matches!(&state, State::Officer),
+        Service::EntryBytes | Service::EntryAbort => matches!(&state, State::Entry),
+        Service::EntryBegin | Service::Zeroise | Service::ZeroiseAll => {
+            matches!(&state, State::Officer)
+        }
         Service::ShowSlot => matches!(&state, State::Officer | State::User),
     }
 }

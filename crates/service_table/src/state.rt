@@ -17,6 +17,8 @@ pub enum State {
     Officer,
     /// The user's role.
     User,
+    /// A parameter is being entered.
+    Entry,
 }
 
 impl State {
@@ -31,6 +33,7 @@ impl State {
             State::Approved => 3,
             State::Officer => 4,
             State::User => 5,
+            State::Entry => 6,
         }
     }
 
@@ -45,6 +48,7 @@ impl State {
             3 => Some(State::Approved),
             4 => Some(State::Officer),
             5 => Some(State::User),
+            6 => Some(State::Entry),
             _ => None,
         }
     }

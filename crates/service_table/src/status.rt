@@ -13,6 +13,8 @@ pub enum Status {
     NotInState,
     /// The body isn't of the service's form.
     BadBody,
+    /// The bytes are more than the parameter has.
+    BadLength,
 }
 
 impl Status {
@@ -25,6 +27,7 @@ impl Status {
             Status::UnknownService => 1,
             Status::NotInState => 2,
             Status::BadBody => 3,
+            Status::BadLength => 12,
         }
     }
 
@@ -37,6 +40,7 @@ impl Status {
             1 => Some(Status::UnknownService),
             2 => Some(Status::NotInState),
             3 => Some(Status::BadBody),
+            12 => Some(Status::BadLength),
             _ => None,
         }
     }
