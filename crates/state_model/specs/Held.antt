@@ -5,7 +5,7 @@ use Rattle.state_model.specs.MachineState.{IsWellFormed}
 use Rattle.state_model.specs.Represents.{machine_of}
 
 abbrev pub kept_of : Inside → Kept
-kept_of m = record { state = m.state; back = m.back; step = m.step; period = m.period; vault = m.vault }
+kept_of m = record { state = m.state; back = m.back; step = m.step; period = m.period; vault = m.vault; entry = m.entry }
 
 -- the machine's rules hold
 abbrev pub IsHeld : Inside → Type 0

@@ -1,3 +1,4 @@
+pub mod Entries
 pub mod SlotBlock
 pub mod MachineState
 pub mod Step

@@ -3,20 +3,23 @@ use Rattle.std.specs.Prelude.{◌≡◌, ◌≢◌, ◌≤◌, ℕ}
 use Rattle.service_table.specs.declared.state.State.{State}
 use Rattle.service_table.specs.declared.state.State.TheVariants as state
 use Rattle.ssp_slots.specs.Slots.{Contents, empty_vault, AreWellFormed}
+use Rattle.state_model.specs.declared.entry.Entry.{Entry}
+use Rattle.state_model.specs.Entries.{no_entry, IsUnderway}
 use Rattle.module_frames.specs.PublicState.{PublicState}
 
--- all that the machine keeps: the state, the state to return to from self-tests and how many of them were done, the period, and
--- sixteen slots
+-- all that the machine keeps: the state, the state to return to from self-tests and how many of them were done, the period,
+-- sixteen slots, and the parameter that is being entered
 pub record MachineState : Type 0 where
   pub state : State
   pub back : State
   pub step : ℕ
   pub period : ℕ
   pub vault : Contents
+  pub entry : Entry
 
 -- not powered, and all else zero or empty
 abbrev pub initial_state : MachineState
-initial_state = record { state = state.Off; back = state.Off; step = 0; period = 0; vault = empty_vault }
+initial_state = record { state = state.Off; back = state.Off; step = 0; period = 0; vault = empty_vault; entry = no_entry }
 
 -- a state to which self-tests return
 abbrev pub IsReturn : State → Type 0
@@ -34,6 +37,9 @@ pub record IsWellFormed (s : MachineState) : Type 0 where
   pub settled : s.state ≢ state.SelfTest → (s.back ≡ state.Off) × (s.step ≡ 0)
   -- each slot is empty, and zero then, or holds a parameter that fits
   pub slots : AreWellFormed s.vault.slots
+  -- in Entry a parameter is being entered, and else none
+  pub entering : s.state ≡ state.Entry → IsUnderway s.entry
+  pub wiped : s.state ≢ state.Entry → s.entry ≡ no_entry
 
 -- the part that everyone may see
 abbrev pub public_of : MachineState → PublicState

@@ -9,7 +9,7 @@ use Rattle.state_model.specs.MachineState.{MachineState, IsWellFormed}
 use Rattle.state_model.specs.Step.{Stepped, reply_to}
 
 abbrev pub machine_of : Kept → MachineState
-machine_of m = record { state = m.state; back = m.back; step = m.step; period = m.period; vault = m.vault }
+machine_of m = record { state = m.state; back = m.back; step = m.step; period = m.period; vault = m.vault; entry = m.entry }
 
 -- the module holds the values of this state, and the rules hold
 pub record Represents (m : Kept) (s : MachineState) : Type 0 where

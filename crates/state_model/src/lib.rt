@@ -1,6 +1,7 @@
 //! The machine: its state, and one step for one command.
 #![tactic(auto)]
 
+mod entry;
 mod laws;
 mod module;
 

@@ -1,15 +1,17 @@
 // The module: private fields, and one public call for a command.
-ghost use Rattle.std.specs.Prelude.{◌≡◌, ◌≢◌, ◌≤◌, true, IfOk};
+ghost use Rattle.std.specs.Prelude.{◌≡◌, ◌≤◌, ◌<◌, true, IfOk, IsTrue};
 ghost use Rattle.service_table.specs.Services.{is_permitted};
-ghost use Rattle.module_frames.specs.Requests.{IsInRange};
+ghost use Rattle.module_frames.specs.Requests.{asked_of, IsInRange};
 ghost use Rattle.module_frames.specs.PublicState.{status_block, no_block};
 ghost use Rattle.state_model.specs.MachineState.{MachineState, initial_state, public_of};
-ghost use Rattle.state_model.specs.Step.{step, done_for, power_on, request_tests, test_step, select_role, reset, zeroise, zeroise_all, return_from, role_state};
+ghost use Rattle.state_model.specs.Step.{step, done_for, power_on, request_tests, test_step, select_role, reset, entry_begin, entry_bytes, entry_abort, zeroise, zeroise_all, return_from, role_state};
+ghost use Rattle.bits_core.specs.Parameters.{length_fits};
 ghost use Rattle.ssp_slots.specs.Slots.{slot_in};
 ghost use Rattle.state_model.specs.SlotBlock.{header_block, slot_block};
 ghost use Rattle.state_model.specs.Asking.{MayBeAsked};
 ghost use Rattle.state_model.specs.Represents.{Represents, Leaves, Replies};
 
+use crate::entry::{Entry, Target};
 use bits_core::{Header, SlotId};
 use module_frames::{Command, Reply, Request, read_request};
 use service_table::{Service, State, Status, permitted, service_of};
@@ -25,6 +27,7 @@ pub struct Module {
     step: u8,
     period: u32,
     vault: Vault,
+    entry: Entry,
 }
 
 impl Model for Module {
@@ -97,6 +100,7 @@ impl Module {
             step: 0,
             period: 0,
             vault,
+            entry: Entry::empty(),
         })
     }
 
@@ -143,13 +147,13 @@ impl Module {
 
     // SelectRole: the state of the role.
     fn select_role(&mut self, role: u8)
-        requires { self.old.state ≢ State.SelfTest }
+        requires { is_permitted Service.SelectRole self.old.state ≡ true }
         ensures { (s : MachineState) → Represents self.old s → Represents self.new (select_role s role) }
     {
         self.state = role_state(role);
     }
 
-    // Reset: to Init, and all slots are empty. The period stays.
+    // Reset: to Init, all slots are empty and nothing is entered. The period stays.
     fn reset(&mut self)
         ensures { (s : MachineState) → Represents self.old s → Represents self.new (reset s) }
     {
@@ -157,6 +161,41 @@ impl Module {
         self.back = State::Off;
         self.step = 0;
         self.vault.zeroise_all();
+        self.entry.clear();
+    }
+
+    // EntryBegin: a parameter is entered for this target.
+    fn entry_begin(&mut self, target: Target)
+        requires officer { self.old.state ≡ State.Officer }
+        requires slot { target.slot < 16 }
+        requires uses { 1 ≤ target.header.uses }
+        requires fits { IsTrue (length_fits target.header.kind target.header.domain target.length) }
+        ensures { (s : MachineState) → Represents self.old s → Represents self.new (entry_begin s target) }
+    {
+        self.entry.begin(target);
+        self.state = State::Entry;
+    }
+
+    // EntryBytes: the piece is appended, unless it would pass the parameter's length.
+    fn entry_bytes(&mut self, piece: &[u8], block: &[u8; 12]) -> Status
+        requires entry { self.old.state ≡ State.Entry }
+        requires block { block.now ≡ no_block }
+        ensures { (s : MachineState) → Represents self.old s → Leaves (entry_bytes s piece.now) self.new result block.now }
+    {
+        if piece.len() > self.entry.length() - self.entry.filled {
+            return Status::BadLength;
+        }
+        self.entry.append(piece);
+        Status::Ok
+    }
+
+    // EntryAbort: the entry is wiped.
+    fn entry_abort(&mut self)
+        requires { self.old.state ≡ State.Entry }
+        ensures { (s : MachineState) → Represents self.old s → Represents self.new (entry_abort s) }
+    {
+        self.entry.clear();
+        self.state = State::Officer;
     }
 
     // Zeroise: the slot is empty.
@@ -195,11 +234,11 @@ impl Module {
     }
 
     // Does what is asked, and fills the block.
-    fn answer(&mut self, request: Request, block: &mut [u8; 12])
+    fn answer(&mut self, request: Request<'_>, block: &mut [u8; 12]) -> Status
         requires block { block.old ≡ no_block }
-        requires in_range { IsInRange request }
-        requires permitted { MayBeAsked request self.old.state }
-        ensures { (s : MachineState) → Represents self.old s → Leaves (done_for s request) self.new Status.Ok block.new }
+        requires in_range { IsInRange (asked_of request) }
+        requires permitted { MayBeAsked (asked_of request) self.old.state }
+        ensures { (s : MachineState) → Represents self.old s → Leaves (done_for s (asked_of request.entry)) self.new result block.new }
     {
         match request {
             Request::PowerOn { period } => self.power_on(period),
@@ -209,10 +248,22 @@ impl Module {
             Request::ShowVersion => *block = VERSION,
             Request::SelectRole { role } => self.select_role(role),
             Request::Reset => self.reset(),
+            Request::EntryBegin {
+                slot,
+                header,
+                length,
+            } => self.entry_begin(Target {
+                slot,
+                header,
+                length,
+            }),
+            Request::EntryBytes { piece } => return self.entry_bytes(piece, block),
+            Request::EntryAbort => self.entry_abort(),
             Request::Zeroise { slot } => self.zeroise(slot),
             Request::ZeroiseAll => self.zeroise_all(),
             Request::ShowSlot { slot } => self.show_slot(slot, block),
         }
+        Status::Ok
     }
 
     // Walks the one order, and does what is asked where the command passes.
@@ -229,8 +280,7 @@ impl Module {
         let Some(request) = read_request(service, command.body()) else {
             return Status::BadBody;
         };
-        self.answer(request, block);
-        Status::Ok
+        self.answer(request, block)
     }
 
     /// One step of the machine: does what the command asks where the order lets it pass, and fills the reply.

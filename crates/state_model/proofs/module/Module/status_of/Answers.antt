@@ -1,3 +1,5 @@
+use Rattle.module_frames.specs.Requests.{asked_of}
+use Rattle.std.specs.Option.{option_map}
 use Rattle.std.proofs.Common.{◌≡◌, sym, ◌∙◌, ap}
 use Rattle.state_model.specs.Kept.{Kept}
 use Rattle.state_model.specs.MachineState.{MachineState}
@@ -24,12 +26,12 @@ pub returns-in_default-read_request : goal.returns-in_default-read_request
 returns-in_default-read_request c s represents =
     let known = rw c.service.ensures at (sym c.service_of.ensures ∙ c.in-Some.is) in
     let leave = rw (same_state c.self.view_is represents) at (sym c.permitted.ensures ∙ c.if-not-permitted.false) in
-    let bad = rw c.body.ensures.body at (sym c.read_request.ensures.read ∙ c.in_default-read_request.is) in
+    let bad = rw c.body.ensures.body at (sym c.read_request.ensures.read ∙ ap (option_map asked_of) c.in_default-read_request.is) in
     rw (step_asked s c.args.command.now c.in-Some.service known leave, bad) (refused_leaves c.args.self.now s _ c.args.block.now represents c.requires)
 
 pub returns : goal.returns
 returns c s represents =
     let known = rw c.service.ensures at (sym c.service_of.ensures ∙ c.in-Some.is) in
     let leave = rw (same_state c.self.view_is represents) at (sym c.permitted.ensures ∙ c.if-not-permitted.false) in
-    let good = rw c.body.ensures.body at (sym c.read_request.ensures.read ∙ c.in-Some-read_request.is) in
+    let good = rw c.body.ensures.body at (sym c.read_request.ensures.read ∙ ap (option_map asked_of) c.in-Some-read_request.is) in
     rw (step_asked s c.args.command.now c.in-Some.service known leave, good) (c.answer.ensures s represents)
