@@ -68,7 +68,7 @@ fn answers_the_worked_streams(rt: HostRuntime) -> Result<(), Fail> {
         0x5c, 0x01, 0x04, 0, 0, 0, 0, 0, 0, 0, 0, 0, 0, 0, 0, 0, 0, 0, 0, 0, 0, 0, 0, 0,
     ];
     let no_service = [
-        0x5c, 0x01, 0x08, 1, 0, 0, 0, 0, 0, 0, 0, 0, 0, 0, 0, 0, 0, 0, 0, 0, 0, 0, 0, 0,
+        0x5c, 0x01, 0x0a, 1, 0, 0, 0, 0, 0, 0, 0, 0, 0, 0, 0, 0, 0, 0, 0, 0, 0, 0, 0, 0,
     ];
     let echoed = [
         0x5c, 0x01, 0x7e, 1, 0, 0, 0, 0, 0, 0, 0, 0, 0, 0, 0, 0, 0, 0, 0, 0, 0, 0, 0, 0,
@@ -79,7 +79,7 @@ fn answers_the_worked_streams(rt: HostRuntime) -> Result<(), Fail> {
     let rows: [(&[u8], &[u8], u8); 10] = [
         (&STREAM, &REPLIES, 0),
         (&[0xc5, 0x01, 0x04, 0, 0, 0, 0, 0], &off, 0),
-        (&[0xc5, 0x01, 0x08, 0, 0, 0, 0, 0], &no_service, 0),
+        (&[0xc5, 0x01, 0x0a, 0, 0, 0, 0, 0], &no_service, 0),
         (&[0xc5, 0x01, 0x7e, 0, 0, 0, 0, 0], &echoed, 0),
         (&[0xc5, 0x01, 0x07, 0, 0, 0, 0, 0], &not_now, 0),
         (&[], &[], 0),
@@ -294,5 +294,154 @@ fn goes_through_tests_and_roles(rt: HostRuntime) -> Result<(), Fail> {
     let (status, replies) = outcome(rt.alloc(), &["serve"], &stream, 11)?;
     assert_eq!(rt; status, 0);
     assert_eq!(rt; replies.bytes(), want.as_slice());
+    Ok(())
+}
+
+// PowerOn, tests, and the officer's role; here and below each command, and of its reply the status and the state.
+const TO_OFFICER: [(&[u8], u8, u8); 6] = [
+    (POWER_ON, 0, 1),
+    (REQUEST_TESTS, 0, 2),
+    (TEST_STEP, 0, 2),
+    (TEST_STEP, 0, 2),
+    (TEST_STEP, 0, 3),
+    (OFFICER, 0, 4),
+];
+
+// Entry of a MAC key of 5 bytes, and what may come while it is entered.
+const BEGIN: &[u8] = &[
+    0xc5, 0x01, 0x08, 0, 0, 0, 0, 9, 3, 3, 0, 0, 0, 0, 0, 0x64, 5,
+];
+
+const FOUR_BYTES: &[u8] = &[0xc5, 0x01, 0x09, 0, 0, 0, 0, 4, 0x4a, 0x65, 0x66, 0x65];
+
+const FIVE_BYTES: &[u8] = &[
+    0xc5, 0x01, 0x09, 0, 0, 0, 0, 5, 0x4a, 0x65, 0x66, 0x65, 0x65,
+];
+
+const LAST_BYTE: &[u8] = &[0xc5, 0x01, 0x09, 0, 0, 0, 0, 1, 0x65];
+
+const NO_BYTES: &[u8] = &[0xc5, 0x01, 0x09, 0, 0, 0, 0, 0];
+
+const ABORT: &[u8] = &[0xc5, 0x01, 0x0b, 0, 0, 0, 0, 0];
+
+const ZEROISE_3: &[u8] = &[0xc5, 0x01, 0x0c, 0, 0, 0, 0, 1, 3];
+
+const ZEROISE_16: &[u8] = &[0xc5, 0x01, 0x0c, 0, 0, 0, 0, 1, 16];
+
+const ZEROISE_ALL: &[u8] = &[0xc5, 0x01, 0x0d, 0, 0, 0, 0, 0];
+
+const SHOW_3: &[u8] = &[0xc5, 0x01, 0x0e, 0, 0, 0, 0, 1, 3];
+
+const SHOW_16: &[u8] = &[0xc5, 0x01, 0x0e, 0, 0, 0, 0, 1, 16];
+
+// After the officer's role. No block tells anything.
+const ENTERING: [(&[u8], u8, u8); 30] = [
+    (SHOW_3, 0, 4),
+    (SHOW_16, 3, 4),
+    (ABORT, 2, 4),
+    (FOUR_BYTES, 2, 4),
+    (BEGIN, 0, 6),
+    (FIVE_BYTES, 0, 6),
+    (LAST_BYTE, 12, 6),
+    (ABORT, 0, 4),
+    (BEGIN, 0, 6),
+    (BEGIN, 2, 6),
+    (NO_BYTES, 3, 6),
+    (FOUR_BYTES, 0, 6),
+    (FIVE_BYTES, 12, 6),
+    (LAST_BYTE, 0, 6),
+    (SHOW_3, 2, 6),
+    (ZEROISE_3, 2, 6),
+    (REQUEST_TESTS, 2, 6),
+    (OFFICER, 2, 6),
+    (ABORT, 0, 4),
+    (SHOW_3, 0, 4),
+    (ZEROISE_3, 0, 4),
+    (ZEROISE_16, 3, 4),
+    (ZEROISE_ALL, 0, 4),
+    (USER, 0, 5),
+    (SHOW_3, 0, 5),
+    (ZEROISE_ALL, 2, 5),
+    (BEGIN, 2, 5),
+    (OFFICER, 0, 4),
+    (BEGIN, 0, 6),
+    (RESET, 0, 1),
+];
+
+// A stream, and the replies to it.
+#[derive(Drop)]
+struct Dialogue {
+    stream: Vec<u8>,
+    want: Vec<u8>,
+}
+
+impl Dialogue {
+    fn new(alloc: Global) -> Dialogue {
+        Dialogue {
+            stream: Vec::new(alloc),
+            want: Vec::new(alloc),
+        }
+    }
+
+    fn add(&mut self, rows: &[(&[u8], u8, u8)]) -> Result<(), Fail> {
+        for (command, status, state) in rows {
+            self.stream.extend_from_slice(command)?;
+            self.want
+                .extend_from_slice(&reply_to(command, *status, *state, &[0; 12]))?;
+        }
+        Ok(())
+    }
+}
+
+#[test]
+fn enters_a_parameter_and_gives_it_up(rt: HostRuntime) -> Result<(), Fail> {
+    let mut dialogue = Dialogue::new(rt.alloc());
+    dialogue.add(&TO_OFFICER)?;
+    dialogue.add(&ENTERING)?;
+    let (status, replies) = outcome(rt.alloc(), &["serve"], &dialogue.stream, 5)?;
+    assert_eq!(rt; status, 0);
+    assert_eq!(rt; replies.bytes(), dialogue.want.as_slice());
+    Ok(())
+}
+
+// Bodies of EntryBegin, and whether they have its form.
+const BEGINNINGS: [([u8; 9], bool); 22] = [
+    ([0, 1, 0, 0, 0, 0, 0, 1, 16], true),
+    ([15, 1, 1, 1, 0xff, 0xff, 0xff, 0xff, 32], true),
+    ([16, 1, 0, 0, 0, 0, 0, 1, 16], false),
+    ([0, 0, 0, 0, 0, 0, 0, 1, 16], false),
+    ([0, 5, 0, 0, 0, 0, 0, 1, 16], false),
+    ([0, 1, 2, 0, 0, 0, 0, 1, 16], false),
+    ([0, 1, 0, 2, 0, 0, 0, 1, 16], false),
+    ([0, 1, 0, 0, 0, 0, 0, 0, 16], false),
+    ([0, 1, 0, 0, 0, 0, 0, 1, 15], false),
+    ([0, 1, 0, 0, 0, 0, 0, 1, 17], false),
+    ([0, 1, 0, 0, 0, 0, 0, 1, 24], true),
+    ([0, 2, 1, 0, 0, 0, 1, 0, 24], true),
+    ([0, 2, 0, 0, 0, 0, 0, 1, 33], false),
+    ([0, 3, 0, 0, 0, 0, 0, 1, 0], false),
+    ([0, 3, 0, 0, 0, 0, 0, 1, 1], true),
+    ([0, 3, 1, 0, 0, 0, 0, 1, 13], false),
+    ([0, 3, 1, 0, 0, 0, 0, 1, 14], true),
+    ([0, 3, 1, 0, 0, 0, 0, 1, 64], true),
+    ([0, 3, 1, 0, 0, 0, 0, 1, 65], false),
+    ([0, 4, 1, 0, 0, 0, 0, 1, 13], false),
+    ([0, 4, 1, 0, 0, 0, 0, 1, 64], true),
+    ([0, 4, 0, 0, 0, 0, 0, 1, 65], false),
+];
+
+#[test]
+fn begins_an_entry_that_has_the_form(rt: HostRuntime) -> Result<(), Fail> {
+    for (body, good) in BEGINNINGS {
+        let mut command = BEGIN[..8].to_vec(rt.alloc())?;
+        command.extend_from_slice(&body)?;
+        let (status, state) = if good { (0, 6) } else { (3, 4) };
+        let mut dialogue = Dialogue::new(rt.alloc());
+        dialogue.add(&TO_OFFICER)?;
+        dialogue.add(&[(&command, status, state)])?;
+        let (status, replies) = outcome(rt.alloc(), &["serve"], &dialogue.stream, 100)?;
+        assert_eq!(rt; status, 0);
+        assert_eq!(rt; replies.bytes(), dialogue.want.as_slice());
+    }
     Ok(())
 }
