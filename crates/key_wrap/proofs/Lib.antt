@@ -1,0 +1,9 @@
+pub mod Bytes
+pub mod Laid
+pub mod Undone
+pub mod Turning
+pub mod Rows
+pub mod Wraps
+pub mod Later
+pub mod Cipher
+pub mod Scattered
