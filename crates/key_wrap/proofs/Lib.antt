@@ -7,3 +7,7 @@ pub mod Wraps
 pub mod Later
 pub mod Cipher
 pub mod Scattered
+pub mod Sealed
+pub mod Padding
+pub mod Buffers
+pub mod Checked

@@ -1,8 +1,9 @@
 -- The steps of W in one buffer. The registers stay where they are: at step t the one that the standard
 -- calls R(2) is semiblock (t - 1) mod m after the first, of m.
-use Rattle.std.specs.Prelude.{◌≡◌, ◌≤◌, ℕ, zero, suc, ◌+◌, ◌*◌, ◌/◌, ◌%◌, ◌-◌, List, ◌++◌, length, take, drop}
+use Rattle.std.specs.Prelude.{◌≡◌, ◌≤◌, ℕ, zero, suc, ◌+◌, ◌*◌, ◌/◌, ◌%◌, ◌-◌, ◌==◌, if◌then◌else◌, List, ◌++◌, length, take, drop}
 use Rattle.std.specs.Int.{w64, to_be_bytes}
 use Rattle.bits_core.specs.ByteList.{xor_bytes}
+use Rattle.key_wrap.specs.Wrapping.{wrapped, padded}
 
 -- 3 to 9 whole semiblocks
 pub record IsSemiblocks (s : List ℕ) : Type 0 where
@@ -28,3 +29,19 @@ stepped enciphered t i x =
 unfoldable pub steps : (List ℕ → List ℕ) → ℕ → ℕ → List ℕ → List ℕ
 steps enciphered m zero x = x
 steps enciphered m (suc t) x = stepped enciphered (t + 1) (t % m) (steps enciphered m t x)
+
+-- KWP's cipher on a padded plaintext: one block where it has two semiblocks, else W
+unfoldable pub sealed : (List ℕ → List ℕ) → List ℕ → List ℕ
+sealed enciphered s = if length s == 16 then enciphered s else wrapped enciphered s
+
+-- 2 to 9 whole semiblocks
+pub record IsPadded (s : List ℕ) : Type 0 where
+  pub least : 16 ≤ length s
+  pub most : length s ≤ 72
+  pub whole : length s % 8 ≡ 0
+
+-- the text is padded from a plaintext of this size
+pub record IsPaddedFrom (text : List ℕ) (size : ℕ) : Type 0 where
+  pub some : 1 ≤ size
+  pub fits : size + 8 ≤ length text
+  pub whole : text ≡ padded (take size (drop 8 text))

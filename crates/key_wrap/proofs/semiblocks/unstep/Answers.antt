@@ -10,8 +10,8 @@ use Rattle.key_wrap.proofs.Bytes.{bytes-take, bytes-drop, bytes-xor, bytes-numbe
 use Rattle.key_wrap.proofs.Undone.{take-half, drop-half, sum-half, stepped_again, block-long, block-halves}
 use Rattle.key_wrap.proofs.semiblocks.unstep.Goals as goal
 
-pub returns : goal.returns
-returns c = λ key bytes is.
+pub returns-clause-opened : goal.returns-clause-opened
+returns-clause-opened c = λ key bytes is.
     let i = c.args.i in
     let text = c.args.text.now in
     let block = c.gather-block.result in
@@ -31,3 +31,6 @@ returns c = λ key bytes is.
     ∙ aes-aes_inverse key (xor_bytes (take 8 block) number ++ drop 8 block) bytes state
     ∙ block-halves (λ (u v : List ℕ). xor_bytes u number ++ v) i text block within c.gather-block.ensures.block in
     sym (ap (stepped (aes key) c.args.t i) c.scatter.ensures ∙ stepped_again (aes key) c.args.t i text opened within c.decrypt.array_long closed)
+
+pub returns-clause-bytes : goal.returns-clause-bytes
+returns-clause-bytes c = λ n. omega (arith, c.type_inv.text n)

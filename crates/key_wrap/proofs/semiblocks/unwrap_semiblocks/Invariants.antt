@@ -6,4 +6,7 @@ use Rattle.key_wrap.proofs.Later.{later}
 use Rattle.key_wrap.proofs.semiblocks.unwrap_semiblocks.Given as goal
 
 abbrev pub invariant-loop-done : goal.invariant-loop-done
-invariant-loop-done l = (key : List ℕ) → IsBytes key → IsExpanded l.schedule key → later (aes key) l.registers (6 * l.registers - l.done) l.done l.text ≡ l.fn.text
+invariant-loop-done l = record {
+  opened : (key : List ℕ) → IsBytes key → IsExpanded l.schedule key → later (aes key) l.registers (6 * l.registers - l.done) l.done l.text ≡ l.fn.text;
+  bytes : IsBytes l.text;
+}
