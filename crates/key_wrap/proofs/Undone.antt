@@ -128,9 +128,10 @@ stepped-keeps enciphered deciphered inv t i x h =
     let b : List ℕ = enciphered (block_at i x) in
     let state : IsState b = inv.states (block_at i x) (block-state x i h) in
     let n : List ℕ = to_be_bytes w64 t in
-    let f : List ℕ = xor_bytes (take 8 b) n in
-    (bytes-laid f i (drop 8 b) x (bytes-xor (take 8 b) n (sym (take-half b state.long)) (bytes-take 8 b state.small) (bytes-number t)) (bytes-drop 8 b state.small) h.bytes,
-    length-laid f i (drop 8 b) x (fits_sum b x t i state.long h.within))
+    let f : List ℕ = xor_bytes (take 8 b) n in (
+      bytes-laid f i (drop 8 b) x (bytes-xor (take 8 b) n (sym (take-half b state.long)) (bytes-take 8 b state.small) (bytes-number t)) (bytes-drop 8 b state.small) h.bytes,
+      length-laid f i (drop 8 b) x (fits_sum b x t i state.long h.within),
+    )
 
 -- a list of bytes with room for m registers, at least one
 pub record HasRegisters (x : List ℕ) (m : ℕ) : Type 0 where

@@ -10,3 +10,6 @@ mod semiblocks;
 pub use kw::{unwrap, wrap};
 pub use kwp::{unwrap_pad, wrap_pad};
 pub use laws::{kw_plaintext_is_unique, kwp_plaintext_is_unique};
+
+#[cfg(test)]
+mod tests;

@@ -47,9 +47,10 @@ returns-else-same-clause-refused c = λ key bytes is.
     let mid = c.unwrap_semiblocks.new.text in
     let rest : List ℕ = drop n buf in
     let w_long : length w ≡ n = length-take-le n buf (omega (arith, c.requires.most, c.told-buf)) in
-    let enough : 8 ≤ length mid = omega (arith, c.requires.least, c.unwrap_semiblocks.auto.text) in
-    (λ e p h.
-    let parts : mid ≡ replicate 8 0xa6 ++ p = kw_checked key w mid p bytes c.unwrap_semiblocks.ensures.bytes c.unwrap_semiblocks.auto.text (c.unwrap_semiblocks.ensures.opened key bytes is) h in
-    let check : take 8 (mid ++ rest) ≡ replicate 8 0xa6 = take-append-le 8 mid rest enough ∙ ap (take 8) parts in
-    false≢true ((c.if-same.ensures).1 check),
-    λ none. refl)
+    let enough : 8 ≤ length mid = omega (arith, c.requires.least, c.unwrap_semiblocks.auto.text) in (
+      λ e p h.
+          let parts : mid ≡ replicate 8 0xa6 ++ p = kw_checked key w mid p bytes c.unwrap_semiblocks.ensures.bytes c.unwrap_semiblocks.auto.text (c.unwrap_semiblocks.ensures.opened key bytes is) h in
+          let check : take 8 (mid ++ rest) ≡ replicate 8 0xa6 = take-append-le 8 mid rest enough ∙ ap (take 8) parts in
+          false≢true ((c.if-same.ensures).1 check),
+      λ none. refl,
+    )

@@ -31,8 +31,9 @@ returns-in-None-clause-refused c = λ key bytes is.
     let w : List ℕ = take n buf in
     let mid = c.unseal.new.text in
     let w_long : length w ≡ n = length-take-le n buf (omega (arith, c.requires.most, c.told-buf)) in
-    let long : length mid ≡ n = c.unseal.auto.text ∙ w_long in
-    (λ e p h.
-    c.in-None.ensures.none p h.plain
-    (take_at mid (drop n buf) n long ∙ kwp_padded key w mid p bytes c.unseal.ensures.bytes c.unseal.auto.text (c.unseal.ensures.opened key bytes is) h),
-    λ none. refl)
+    let long : length mid ≡ n = c.unseal.auto.text ∙ w_long in (
+      λ e p h.
+          c.in-None.ensures.none p h.plain
+          (take_at mid (drop n buf) n long ∙ kwp_padded key w mid p bytes c.unseal.ensures.bytes c.unseal.auto.text (c.unseal.ensures.opened key bytes is) h),
+      λ none. refl,
+    )
