@@ -1,10 +1,9 @@
 -- What stands in the buffer of eighty bytes.
-use Rattle.std.proofs.Common.{◌≡◌, ℕ, ◌+◌, ◌-◌, ◌*◌, ◌/◌, ◌<◌, ◌≤◌, List, [], ◌++◌, length, take, drop, sym, ap, ap₂, ◌∙◌, arith}
+use Rattle.std.proofs.Common.{◌≡◌, ℕ, ◌+◌, ◌-◌, ◌≤◌, List, [], ◌++◌, length, take, drop, sym, ap, ap₂, ◌∙◌, arith}
 use Rattle.std.proofs.Math.Seq.{take-append-add}
 use Rattle.std.proofs.lemmas.List.{length-append, length-take-le, length-drop, take_at, drop_at, take-append-le, drop-append-le, drop_all, take-take, append-nil}
 use borrow.Rule.Slice.PartMut.{put_mid, mid_of}
 use Rattle.bits_core.specs.ByteList.{zeros, zero_padded}
-use Rattle.bits_core.proofs.ZeroPadding.{length-zeros}
 
 -- after the bytes were moved up by eight, the header written and the rest wiped
 pub headed : (header front turned wiped buf : List ℕ) (count k : ℕ) → length buf ≡ 80 → length header ≡ 8 → count ≤ 64 → k ≡ 80 - (count + 8)

@@ -1,10 +1,10 @@
 -- What was unwrapped, and what the check value says of it.
-use Rattle.std.proofs.Common.{◌≡◌, ℕ, ◌+◌, ◌-◌, ◌*◌, ◌/◌, ◌%◌, ◌<◌, ◌≤◌, List, ◌++◌, length, take, drop, replicate, sym, ap, ◌∙◌, subst, arith, zero, suc}
-use Rattle.std.proofs.lemmas.List.{length-append, length-replicate, length-drop, length-take-le, take-append-le, take-append-drop, take_all, get_or-replicate, get_or_past, drop_at}
+use Rattle.std.proofs.Common.{◌≡◌, ℕ, ◌+◌, ◌-◌, ◌%◌, ◌≤◌, List, ◌++◌, length, take, drop, replicate, sym, ap, ◌∙◌, subst, arith, zero, suc}
+use Rattle.std.proofs.lemmas.List.{length-append, length-drop, length-take-le, take-append-drop}
 use Rattle.bits_core.specs.ByteList.{IsBytes}
 use Rattle.aes_core.specs.Key.{aes}
-use Rattle.key_wrap.specs.Wrapping.{wrapped, kw, padded, kwp, IsKwPlain, IsKwpPlain, IsKwOf, IsKwpOf}
-use Rattle.key_wrap.specs.InPlace.{sealed, IsPadded, IsPaddedFrom}
+use Rattle.key_wrap.specs.Wrapping.{wrapped, kw, padded, IsKwPlain, IsKwpPlain, IsKwOf, IsKwpOf}
+use Rattle.key_wrap.specs.InPlace.{sealed, IsPaddedFrom}
 use Rattle.key_wrap.proofs.Bytes.{bytes-append, bytes-take, bytes-drop}
 use Rattle.key_wrap.proofs.Cipher.{aes-long}
 use Rattle.key_wrap.proofs.Sealed.{wrapped-long, wrapped-injective, sealed-long, sealed-injective}

@@ -1,6 +1,6 @@
 -- A list with other semiblocks at its front and at one register.
-use Rattle.std.proofs.Common.{◌≡◌, ℕ, zero, suc, ◌+◌, ◌-◌, ◌*◌, ◌<◌, ◌≤◌, List, [], ◌∷◌, ◌++◌, length, take, drop, refl, sym, ap, ap₂, ◌∙◌, arith}
-use Rattle.std.proofs.lemmas.List.{length-append, length-take-le, length-drop, take_at, drop_at, take-append-le, drop-append-le, drop-drop, drop-take, take-append-drop, take-take, append_assoc}
+use Rattle.std.proofs.Common.{◌≡◌, ℕ, ◌+◌, ◌*◌, ◌≤◌, List, ◌++◌, length, take, drop, sym, ap, ap₂, ◌∙◌, arith}
+use Rattle.std.proofs.lemmas.List.{length-append, length-take-le, length-drop, take_at, drop_at, take-append-le, drop-drop, drop-take, take-append-drop, take-take, append_assoc}
 use Rattle.bits_core.specs.ByteList.{IsBytes}
 use Rattle.key_wrap.specs.InPlace.{laid}
 use Rattle.key_wrap.proofs.Bytes.{bytes-append, bytes-take, bytes-drop}

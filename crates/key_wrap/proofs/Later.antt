@@ -1,5 +1,5 @@
 -- The steps that are still to come after some.
-use Rattle.std.proofs.Common.{◌≡◌, ℕ, zero, suc, ◌+◌, ◌-◌, ◌*◌, ◌%◌, ◌<◌, List, refl, sym, ap, ap₂, ◌∙◌, arith, add-zero, add-one}
+use Rattle.std.proofs.Common.{◌≡◌, ℕ, zero, suc, ◌+◌, ◌-◌, ◌%◌, ◌<◌, List, refl, sym, ap, ◌∙◌, arith, add-one}
 use Rattle.key_wrap.specs.InPlace.{stepped, steps}
 
 -- x after the steps k + 1 to k + n

@@ -1,11 +1,11 @@
 -- The registers in place are those of the standard, turned.
-use Rattle.std.proofs.Common.{◌≡◌, ℕ, zero, suc, ◌+◌, ◌-◌, ◌*◌, ◌%◌, ◌<◌, ◌≤◌, List, [], ◌∷◌, ◌++◌, length, take, drop, refl, sym, ap, ap₂, ◌∙◌, arith, inl, inr, add-one}
+use Rattle.std.proofs.Common.{◌≡◌, ℕ, suc, ◌+◌, ◌*◌, ◌%◌, ◌<◌, ◌≤◌, List, ◌++◌, length, take, drop, sym, ap, ap₂, ◌∙◌, arith, inl, inr, add-one}
 use Rattle.std.specs.Int.{w64, to_be_bytes}
 use Rattle.std.proofs.Math.Nat.{suc-mod, mod-eq_of_lt, mod_self}
 use Rattle.std.proofs.lemmas.Bool.{cases_lt}
 use Rattle.std.proofs.lemmas.List.{length-append, length-take-le, length-drop, take_at, drop_at, take_all, drop_all, drop-drop, take-append-drop, append_assoc, append-nil}
 use Rattle.bits_core.specs.ByteList.{xor_bytes}
-use Rattle.key_wrap.specs.InPlace.{laid, block_at, stepped}
+use Rattle.key_wrap.specs.InPlace.{laid, stepped}
 use Rattle.key_wrap.proofs.Laid.{Fits, take-laid, between-laid, rest-laid}
 use Rattle.key_wrap.proofs.Undone.{fits_sum, turn_below}
 

@@ -1,7 +1,7 @@
 -- The steps in place are W.
-use Rattle.std.proofs.Common.{◌≡◌, ℕ, zero, suc, ◌+◌, ◌-◌, ◌*◌, ◌/◌, ◌%◌, ◌<◌, ◌≤◌, List, [], ◌∷◌, ◌++◌, length, take, drop, refl, sym, ap, ap₂, ◌∙◌, arith, add-one}
+use Rattle.std.proofs.Common.{◌≡◌, ℕ, zero, suc, ◌+◌, ◌-◌, ◌*◌, ◌/◌, ◌%◌, ◌<◌, ◌≤◌, List, ◌++◌, length, take, drop, refl, sym, ap, ◌∙◌, arith}
 use Rattle.std.proofs.Math.Nat.{mul-mod_left}
-use Rattle.key_wrap.specs.Wrapping.{Registers, next_registers, registers, row, wrapped}
+use Rattle.key_wrap.specs.Wrapping.{Registers, next_registers, registers, wrapped}
 use Rattle.key_wrap.specs.InPlace.{stepped, steps}
 use Rattle.key_wrap.proofs.Laid.{length-laid}
 use Rattle.key_wrap.proofs.Undone.{turn_below, fits_sum}

@@ -1,6 +1,6 @@
 -- The steps of W in one buffer. The registers stay where they are: at step t the one that the standard
 -- calls R(2) is semiblock (t - 1) mod m after the first, of m.
-use Rattle.std.specs.Prelude.{◌≡◌, ◌≤◌, ℕ, zero, suc, ◌+◌, ◌*◌, ◌/◌, ◌%◌, ◌-◌, ◌==◌, if◌then◌else◌, List, ◌++◌, length, take, drop}
+use Rattle.std.specs.Prelude.{◌≡◌, ◌≤◌, ℕ, zero, suc, ◌+◌, ◌*◌, ◌%◌, ◌==◌, if◌then◌else◌, List, ◌++◌, length, take, drop}
 use Rattle.std.specs.Int.{w64, to_be_bytes}
 use Rattle.bits_core.specs.ByteList.{xor_bytes}
 use Rattle.key_wrap.specs.Wrapping.{wrapped, padded}

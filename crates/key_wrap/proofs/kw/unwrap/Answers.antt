@@ -1,8 +1,6 @@
-use Rattle.std.proofs.Common.{◌≡◌, ◌≤◌, ◌+◌, ◌-◌, ◌%◌, ℕ, List, ◌++◌, length, take, drop, replicate, refl, sym, ap, ◌∙◌, arith, true, false}
+use Rattle.std.proofs.Common.{◌≡◌, ◌≤◌, ◌+◌, ◌-◌, ℕ, List, ◌++◌, length, take, drop, replicate, refl, sym, ap, ◌∙◌, arith}
 use Rattle.std.proofs.lemmas.List.{length-take-le, length-drop, take-append-le, take_all}
 use Rattle.std.proofs.lemmas.Bool.{true≢false, false≢true}
-use Rattle.aes_core.specs.Key.{aes}
-use Rattle.key_wrap.specs.Wrapping.{IsKwOf}
 use Rattle.key_wrap.proofs.Buffers.{opened_front, opened_rest}
 use Rattle.key_wrap.proofs.Checked.{kw_checked, kw_found}
 use Rattle.key_wrap.proofs.kw.unwrap.Goals as goal

@@ -4,7 +4,6 @@ use Rattle.std.proofs.lemmas.Bool.{false≢true}
 use Rattle.std.proofs.lemmas.Nat.{be_bytes_4}
 use Rattle.std.proofs.lemmas.List.{length-drop, length-take-le, take_all, take-replicate}
 use Rattle.bits_core.specs.ByteList.{IsBytes, zeros}
-use Rattle.key_wrap.specs.InPlace.{IsPaddedFrom}
 use Rattle.key_wrap.proofs.Bytes.{bytes-take, bytes-drop}
 use Rattle.key_wrap.proofs.Padding.{padding, length-padded, size_is, rest_is, four_bytes, is_padded}
 use Rattle.key_wrap.proofs.kwp.plain_length.Goals as goal

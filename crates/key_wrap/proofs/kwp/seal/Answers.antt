@@ -1,4 +1,4 @@
-use Rattle.std.proofs.Common.{◌≡◌, sym, ap, ◌∙◌}
+use Rattle.std.proofs.Common.{sym, ap, ◌∙◌}
 use Rattle.aes_core.specs.Key.{aes}
 use Rattle.key_wrap.proofs.Sealed.{sealed_one, sealed_more}
 use Rattle.key_wrap.proofs.kwp.seal.Goals as goal

@@ -1,4 +1,4 @@
-use Rattle.std.proofs.Common.{◌≡◌, ℕ, List, length, sym, ap, ◌∙◌}
+use Rattle.std.proofs.Common.{◌≡◌, ℕ, length, sym, ap, ◌∙◌}
 use Rattle.aes_core.specs.Aes.{IsState}
 use Rattle.aes_core.specs.Key.{aes, aes_inverse}
 use Rattle.aes_spec.proofs.EncryptionUndoes.{aes-aes_inverse}

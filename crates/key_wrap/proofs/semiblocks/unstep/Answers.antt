@@ -1,11 +1,10 @@
-use Rattle.std.proofs.Common.{◌≡◌, ◌≤◌, ◌+◌, ◌*◌, ℕ, List, ◌++◌, length, take, drop, sym, ap, ap₂, ◌∙◌, arith}
+use Rattle.std.proofs.Common.{◌≡◌, ◌≤◌, ◌+◌, ◌*◌, ℕ, List, ◌++◌, length, take, drop, sym, ap, ◌∙◌, arith}
 use Rattle.std.specs.Int.{w64, to_be_bytes}
-use Rattle.std.proofs.lemmas.List.{take_at, drop_at, length-take-le, length-drop}
 use Rattle.bits_core.specs.ByteList.{xor_bytes}
 use Rattle.aes_core.specs.Aes.{IsState}
 use Rattle.aes_core.specs.Key.{aes, aes_inverse}
 use Rattle.aes_spec.proofs.EncryptionUndoes.{aes-aes_inverse}
-use Rattle.key_wrap.specs.InPlace.{laid, block_at, stepped}
+use Rattle.key_wrap.specs.InPlace.{stepped}
 use Rattle.key_wrap.proofs.Bytes.{bytes-take, bytes-drop, bytes-xor, bytes-number, two_semiblocks}
 use Rattle.key_wrap.proofs.Undone.{take-half, drop-half, sum-half, stepped_again, block-long, block-halves}
 use Rattle.key_wrap.proofs.semiblocks.unstep.Goals as goal

@@ -1,6 +1,6 @@
-use Rattle.std.proofs.Common.{◌≡◌, ◌-◌, ◌*◌, ◌/◌, ℕ, List, length, sym, ap, ◌∙◌, arith}
+use Rattle.std.proofs.Common.{◌≡◌, ◌-◌, ◌*◌, ◌/◌, ℕ, length, sym, ap, ◌∙◌, arith}
 use Rattle.aes_core.specs.Key.{aes}
-use Rattle.key_wrap.specs.InPlace.{steps, stepped}
+use Rattle.key_wrap.specs.InPlace.{steps}
 use Rattle.key_wrap.proofs.Cipher.{aes-long}
 use Rattle.key_wrap.proofs.Later.{steps-none, steps-more}
 use Rattle.key_wrap.proofs.Wraps.{wrapped-steps}

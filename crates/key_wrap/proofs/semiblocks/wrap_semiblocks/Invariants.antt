@@ -1,4 +1,4 @@
-use Rattle.std.proofs.Common.{◌≡◌, ◌-◌, ◌/◌, List, ℕ, length}
+use Rattle.std.proofs.Common.{◌≡◌, List, ℕ}
 use Rattle.aes_core.specs.Key.{aes}
 use Rattle.aes_core.specs.Schedules.{IsExpanded}
 use Rattle.key_wrap.specs.InPlace.{steps}
