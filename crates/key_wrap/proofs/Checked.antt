@@ -4,11 +4,11 @@ use Rattle.std.proofs.lemmas.List.{length-append, length-drop, length-take-le, t
 use Rattle.bits_core.specs.ByteList.{IsBytes}
 use Rattle.aes_core.specs.Key.{aes}
 use Rattle.key_wrap.specs.Wrapping.{wrapped, kw, padded, IsKwPlain, IsKwpPlain, IsKwOf, IsKwpOf}
-use Rattle.key_wrap.specs.InPlace.{sealed, IsPaddedFrom}
+use Rattle.key_wrap.specs.InPlace.{padded_cipher, IsPaddedFrom}
 use Rattle.key_wrap.proofs.Bytes.{bytes-append, bytes-take, bytes-drop}
 use Rattle.key_wrap.proofs.Cipher.{aes-long}
-use Rattle.key_wrap.proofs.Sealed.{wrapped-long, wrapped-injective, sealed-long, sealed-injective}
-use Rattle.key_wrap.proofs.Padding.{padded-is, bytes-padded, kwp-sealed, padded-injective}
+use Rattle.key_wrap.proofs.Injective.{wrapped-long, wrapped-injective, padded_cipher-long, padded_cipher-injective}
+use Rattle.key_wrap.proofs.Padding.{padded-is, bytes-padded, kwp-padded_cipher, padded-injective}
 
 -- ICV1 and a plaintext
 abbrev pub checked : List ℕ → List ℕ
@@ -66,22 +66,22 @@ kw_found key w mid p hm least most whole is check shown =
     }
 
 -- a list that is enciphered to a wrapping is the padded plaintext
-pub kwp_padded : (key w mid p : List ℕ) → IsBytes key → IsBytes mid → length mid ≡ length w → w ≡ sealed (aes key) mid → IsKwpOf key w p → mid ≡ padded p
+pub kwp_padded : (key w mid p : List ℕ) → IsBytes key → IsBytes mid → length mid ≡ length w → w ≡ padded_cipher (aes key) mid → IsKwpOf key w p → mid ≡ padded p
 kwp_padded key w mid p hk hm same is h =
     let plain : IsKwpPlain p = h.plain in
-    let e : w ≡ sealed (aes key) (padded p) = h.wrapping ∙ kwp-sealed (aes key) p plain.least in
-    let size : length w ≡ length (padded p) = ap (length {A = ℕ}) e ∙ sealed-long (aes key) (aes-long key) (padded p) (padded-is p plain) in
-    sym (sealed-injective key (padded p) mid hk (bytes-padded p plain.bytes) hm (same ∙ size) (padded-is p plain) (sym e ∙ is))
+    let e : w ≡ padded_cipher (aes key) (padded p) = h.wrapping ∙ kwp-padded_cipher (aes key) p plain.least in
+    let size : length w ≡ length (padded p) = ap (length {A = ℕ}) e ∙ padded_cipher-long (aes key) (aes-long key) (padded p) (padded-is p plain) in
+    sym (padded_cipher-injective key (padded p) mid hk (bytes-padded p plain.bytes) hm (same ∙ size) (padded-is p plain) (sym e ∙ is))
 
 pub kwp_unique : (key w p q : List ℕ) → IsBytes key → IsKwpOf key w p → IsKwpOf key w q → p ≡ q
 kwp_unique key w p q hk hp hq =
     let plain : IsKwpPlain p = hp.plain in
-    let e : w ≡ sealed (aes key) (padded p) = hp.wrapping ∙ kwp-sealed (aes key) p plain.least in
-    let size : length w ≡ length (padded p) = ap (length {A = ℕ}) e ∙ sealed-long (aes key) (aes-long key) (padded p) (padded-is p plain) in
+    let e : w ≡ padded_cipher (aes key) (padded p) = hp.wrapping ∙ kwp-padded_cipher (aes key) p plain.least in
+    let size : length w ≡ length (padded p) = ap (length {A = ℕ}) e ∙ padded_cipher-long (aes key) (aes-long key) (padded p) (padded-is p plain) in
     padded-injective p q plain hq.plain (kwp_padded key w (padded p) q hk (bytes-padded p plain.bytes) (sym size) e hq)
 
 -- a padded list that is enciphered to w shows the plaintext
-pub kwp_found : (key w mid p : List ℕ) (size : ℕ) → IsBytes mid → length mid ≤ 72 → w ≡ sealed (aes key) mid → IsPaddedFrom mid size
+pub kwp_found : (key w mid p : List ℕ) (size : ℕ) → IsBytes mid → length mid ≤ 72 → w ≡ padded_cipher (aes key) mid → IsPaddedFrom mid size
     → p ≡ take size (drop 8 mid) → IsKwpOf key w p
 kwp_found key w mid p size hm most is h shown =
     let long : length p ≡ size = ap (length {A = ℕ}) shown ∙ length-take-le size (drop 8 mid) (omega (arith, h.fits, length-drop 8 mid)) in
@@ -92,5 +92,5 @@ kwp_found key w mid p size hm most is h shown =
     } in
     record {
       plain = plain;
-      wrapping = is ∙ ap (sealed (aes key)) (h.whole ∙ ap padded (sym shown)) ∙ sym (kwp-sealed (aes key) p plain.least);
+      wrapping = is ∙ ap (padded_cipher (aes key)) (h.whole ∙ ap padded (sym shown)) ∙ sym (kwp-padded_cipher (aes key) p plain.least);
     }

@@ -7,7 +7,8 @@ pub mod Wraps
 pub mod Later
 pub mod Cipher
 pub mod Scattered
-pub mod Sealed
+pub mod Injective
 pub mod Padding
 pub mod Buffers
 pub mod Checked
+pub mod Lengths

@@ -7,9 +7,9 @@ use Rattle.std.proofs.lemmas.List.{length-append, length-take-le, length-drop, t
 use Rattle.bits_core.specs.ByteList.{IsBytes, zeros, zero_padded}
 use Rattle.bits_core.proofs.ZeroPadding.{length-zeros, get_or-zeros, zeros-append-zeros}
 use Rattle.key_wrap.specs.Wrapping.{wrapped, padded, kwp, IsKwpPlain}
-use Rattle.key_wrap.specs.InPlace.{sealed, IsPadded}
+use Rattle.key_wrap.specs.InPlace.{padded_cipher, IsPadded}
 use Rattle.key_wrap.proofs.Bytes.{small_along, bytes-append}
-use Rattle.key_wrap.proofs.Sealed.{sealed_one, sealed_more}
+use Rattle.key_wrap.proofs.Injective.{padded_cipher_one, padded_cipher_more}
 
 -- zeros after a plaintext of n bytes
 abbrev pub padding : ℕ → ℕ
@@ -44,13 +44,13 @@ bytes-padded p h =
     bytes-append ((0xa6 ∷ 0x59 ∷ 0x59 ∷ 0xa6 ∷ []) ++ to_be_bytes w32 (length p)) (p ++ zeros (padding (length p)))
     (bytes-header (length p)) (bytes-append p (zeros (padding (length p))) h (bytes-zeros (padding (length p))))
 
-pub kwp-sealed : (enciphered : List ℕ → List ℕ) (p : List ℕ) → 1 ≤ length p → kwp enciphered p ≡ sealed enciphered (padded p)
+pub kwp-padded_cipher : (enciphered : List ℕ → List ℕ) (p : List ℕ) → 1 ≤ length p → kwp enciphered p ≡ padded_cipher enciphered (padded p)
 unfolding kwp
-kwp-sealed enciphered p h =
+kwp-padded_cipher enciphered p h =
     let chosen : Bool → List ℕ = λ b. cond b (enciphered (padded p)) (wrapped enciphered (padded p)) in
     elim (cases_lt 8 (length p)) [
-      | inl more ↦ ap chosen (lt-leb (length p) 8 more) ∙ sym (sealed_more enciphered (padded p) (λ e. absurd (omega (arith, length-padded p))))
-      | inr few ↦ ap chosen (le-leb (length p) 8 few) ∙ sym (sealed_one enciphered (padded p) (omega (arith, length-padded p)))
+      | inl more ↦ ap chosen (lt-leb (length p) 8 more) ∙ sym (padded_cipher_more enciphered (padded p) (λ e. absurd (omega (arith, length-padded p))))
+      | inr few ↦ ap chosen (le-leb (length p) 8 few) ∙ sym (padded_cipher_one enciphered (padded p) (omega (arith, length-padded p)))
     ]
 
 -- the length that stands in a padded text

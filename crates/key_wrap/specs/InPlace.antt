@@ -31,8 +31,8 @@ steps enciphered m zero x = x
 steps enciphered m (suc t) x = stepped enciphered (t + 1) (t % m) (steps enciphered m t x)
 
 -- KWP's cipher on a padded plaintext: one block where it has two semiblocks, else W
-unfoldable pub sealed : (List ℕ → List ℕ) → List ℕ → List ℕ
-sealed enciphered s = if length s == 16 then enciphered s else wrapped enciphered s
+unfoldable pub padded_cipher : (List ℕ → List ℕ) → List ℕ → List ℕ
+padded_cipher enciphered s = if length s == 16 then enciphered s else wrapped enciphered s
 
 -- 2 to 9 whole semiblocks
 pub record IsPadded (s : List ℕ) : Type 0 where

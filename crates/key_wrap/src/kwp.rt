@@ -4,7 +4,7 @@ ghost use Rattle.bits_core.specs.ByteList.{IsBytes, zeros, zero_padded};
 ghost use Rattle.aes_core.specs.Key.{aes};
 ghost use Rattle.aes_core.specs.Schedules.{IsExpanded};
 ghost use Rattle.key_wrap.specs.Wrapping.{kwp, padded, IsKwpOf, IsKwpPlain};
-ghost use Rattle.key_wrap.specs.InPlace.{sealed, IsPadded, IsPaddedFrom};
+ghost use Rattle.key_wrap.specs.InPlace.{padded_cipher, IsPadded, IsPaddedFrom};
 
 use crate::buffer::{put_header, take_header};
 use crate::semiblocks::{unwrap_semiblocks, wrap_semiblocks};
@@ -26,10 +26,10 @@ fn block_of(text: &[u8]) -> [u8; 16]
 }
 
 /// Enciphers a padded plaintext: one block where it has two semiblocks, else W.
-fn seal(schedule: &Schedule, text: &mut [u8])
+fn encipher_padded(schedule: &Schedule, text: &mut [u8])
     requires rounds { 0 < schedule.now.rounds }
     requires semiblocks { IsPadded text.old }
-    ensures { (key : List ℕ) → IsExpanded schedule.now key → text.new ≡ sealed (aes key) text.old }
+    ensures { (key : List ℕ) → IsExpanded schedule.now key → text.new ≡ padded_cipher (aes key) text.old }
 {
     if text.len() == 16 {
         let mut block = block_of(text);
@@ -40,11 +40,11 @@ fn seal(schedule: &Schedule, text: &mut [u8])
     }
 }
 
-/// The list that `seal` enciphers to this one.
-fn unseal(schedule: &Schedule, text: &mut [u8])
+/// The list that `encipher_padded` enciphers to this one.
+fn decipher_padded(schedule: &Schedule, text: &mut [u8])
     requires rounds { 0 < schedule.now.rounds }
     requires semiblocks { IsPadded text.old }
-    ensures opened { (key : List ℕ) → IsBytes key → IsExpanded schedule.now key → text.old ≡ sealed (aes key) text.new }
+    ensures opened { (key : List ℕ) → IsBytes key → IsExpanded schedule.now key → text.old ≡ padded_cipher (aes key) text.new }
     ensures bytes { IsBytes text.new }
 {
     if text.len() == 16 {
@@ -92,7 +92,7 @@ pub fn wrap_pad(schedule: &Schedule, buf: &mut [u8; 80], length: usize) -> usize
     let [n0, n1, n2, n3] = (length as u32).to_be_bytes();
     put_header(buf, &[0xa6, 0x59, 0x59, 0xa6, n0, n1, n2, n3], length);
     let size = 8 * ((length + 7) / 8) + 8;
-    seal(schedule, &mut buf[..size]);
+    encipher_padded(schedule, &mut buf[..size]);
     size
 }
 
@@ -115,7 +115,7 @@ pub fn unwrap_pad(schedule: &Schedule, buf: &mut [u8; 80], length: usize) -> Opt
     ensures padded { IfSome result (λ size. drop size buf.new ≡ zeros (80 - size)) }
     ensures wiped { IfNone result (buf.new ≡ zeros 80) }
 {
-    unseal(schedule, &mut buf[..length]);
+    decipher_padded(schedule, &mut buf[..length]);
     match plain_length(&buf[..length]) {
         Some(size) => {
             take_header(buf, size);

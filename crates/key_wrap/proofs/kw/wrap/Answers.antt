@@ -3,7 +3,7 @@ use Rattle.std.proofs.lemmas.List.{length-take-le}
 use Rattle.aes_core.specs.Key.{aes}
 use Rattle.key_wrap.specs.Wrapping.{wrapped, kw}
 use Rattle.key_wrap.proofs.Cipher.{aes-long}
-use Rattle.key_wrap.proofs.Sealed.{wrapped-long}
+use Rattle.key_wrap.proofs.Injective.{wrapped-long}
 use Rattle.key_wrap.proofs.Buffers.{front_enciphered}
 use Rattle.key_wrap.proofs.Checked.{checked, length-checked}
 use Rattle.key_wrap.proofs.kw.wrap.Goals as goal

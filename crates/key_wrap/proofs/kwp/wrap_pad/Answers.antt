@@ -4,10 +4,10 @@ use Rattle.std.proofs.lemmas.List.{length-take-le}
 use Rattle.bits_core.specs.ByteList.{zero_padded}
 use Rattle.aes_core.specs.Key.{aes}
 use Rattle.key_wrap.specs.Wrapping.{padded}
-use Rattle.key_wrap.specs.InPlace.{sealed, IsPadded}
+use Rattle.key_wrap.specs.InPlace.{padded_cipher, IsPadded}
 use Rattle.key_wrap.proofs.Cipher.{aes-long}
-use Rattle.key_wrap.proofs.Sealed.{sealed-long}
-use Rattle.key_wrap.proofs.Padding.{length-padded, kwp-sealed, framed}
+use Rattle.key_wrap.proofs.Injective.{padded_cipher-long}
+use Rattle.key_wrap.proofs.Padding.{length-padded, kwp-padded_cipher, framed}
 use Rattle.key_wrap.proofs.Buffers.{front_enciphered}
 use Rattle.key_wrap.proofs.kwp.wrap_pad.Goals as goal
 
@@ -22,6 +22,6 @@ returns-clause-wrapped c = λ key is.
     let is_framed = framed c.to_be_bytes.result p c.put_header.new.buf number few c.put_header.ensures in
     let size : length (padded p) ≡ 8 * ((n + 7) / 8) + 8 = length-padded p ∙ ap (λ (k : ℕ). 8 * ((k + 7) / 8) + 8) long in
     let whole : IsPadded (padded p) = record { least = omega arith; most = omega arith; whole = omega arith } in
-    front_enciphered (sealed (aes key)) c.put_header.new.buf (padded p) c.seal.new.text (8 * ((n + 7) / 8) + 8) is_framed size
-    (sealed-long (aes key) (aes-long key) (padded p) whole ∙ size) (c.seal.ensures key is)
-    ∙ ap (zero_padded 80) (sym (kwp-sealed (aes key) p least))
+    front_enciphered (padded_cipher (aes key)) c.put_header.new.buf (padded p) c.encipher_padded.new.text (8 * ((n + 7) / 8) + 8) is_framed size
+    (padded_cipher-long (aes key) (aes-long key) (padded p) whole ∙ size) (c.encipher_padded.ensures key is)
+    ∙ ap (zero_padded 80) (sym (kwp-padded_cipher (aes key) p least))

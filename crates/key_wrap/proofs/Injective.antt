@@ -5,7 +5,7 @@ use Rattle.bits_core.specs.ByteList.{IsBytes}
 use Rattle.aes_core.specs.Aes.{IsState}
 use Rattle.aes_core.specs.Key.{aes, aes_inverse}
 use Rattle.key_wrap.specs.Wrapping.{wrapped}
-use Rattle.key_wrap.specs.InPlace.{steps, sealed, IsPadded}
+use Rattle.key_wrap.specs.InPlace.{steps, padded_cipher, IsPadded}
 use Rattle.key_wrap.proofs.Undone.{Inverses, HasRegisters, unsteps, unsteps-steps}
 use Rattle.key_wrap.proofs.Wraps.{wrapped-steps, steps-long}
 use Rattle.key_wrap.proofs.Cipher.{aes-long, aes_inverses}
@@ -32,33 +32,33 @@ wrapped-injective key s u hk hs hu same least whole e =
     ∙ ap (λ (k : ℕ). steps (aes key) (k / 8 - 1) (6 * (k / 8 - 1)) u) same)
     ∙ unsteps-steps (aes key) (aes_inverse key) inv m n u ru
 
-pub sealed_one : (enciphered : List ℕ → List ℕ) (s : List ℕ) → length s ≡ 16 → sealed enciphered s ≡ enciphered s
-unfolding sealed
-sealed_one enciphered s e = ap (λ (b : Bool). cond b (enciphered s) (wrapped enciphered s)) (eq-eqb (length s) 16 e)
+pub padded_cipher_one : (enciphered : List ℕ → List ℕ) (s : List ℕ) → length s ≡ 16 → padded_cipher enciphered s ≡ enciphered s
+unfolding padded_cipher
+padded_cipher_one enciphered s e = ap (λ (b : Bool). cond b (enciphered s) (wrapped enciphered s)) (eq-eqb (length s) 16 e)
 
-pub sealed_more : (enciphered : List ℕ → List ℕ) (s : List ℕ) → (length s ≡ 16 → ⊥) → sealed enciphered s ≡ wrapped enciphered s
-unfolding sealed
-sealed_more enciphered s ne = ap (λ (b : Bool). cond b (enciphered s) (wrapped enciphered s)) (ne_eqb (length s) 16 ne)
+pub padded_cipher_more : (enciphered : List ℕ → List ℕ) (s : List ℕ) → (length s ≡ 16 → ⊥) → padded_cipher enciphered s ≡ wrapped enciphered s
+unfolding padded_cipher
+padded_cipher_more enciphered s ne = ap (λ (b : Bool). cond b (enciphered s) (wrapped enciphered s)) (ne_eqb (length s) 16 ne)
 
-pub sealed-long : (enciphered : List ℕ → List ℕ) → ((b : List ℕ) → length (enciphered b) ≡ 16) → (s : List ℕ) → IsPadded s → length (sealed enciphered s) ≡ length s
-sealed-long enciphered blocks s h =
+pub padded_cipher-long : (enciphered : List ℕ → List ℕ) → ((b : List ℕ) → length (enciphered b) ≡ 16) → (s : List ℕ) → IsPadded s → length (padded_cipher enciphered s) ≡ length s
+padded_cipher-long enciphered blocks s h =
     elim (cases_eq (length s) 16) [
-      | inl one ↦ ap (length {A = ℕ}) (sealed_one enciphered s one) ∙ blocks s ∙ sym one
-      | inr more ↦ ap (length {A = ℕ}) (sealed_more enciphered s more) ∙ wrapped-long enciphered blocks s (omega (arith, h.least, h.whole, more)) h.whole
+      | inl one ↦ ap (length {A = ℕ}) (padded_cipher_one enciphered s one) ∙ blocks s ∙ sym one
+      | inr more ↦ ap (length {A = ℕ}) (padded_cipher_more enciphered s more) ∙ wrapped-long enciphered blocks s (omega (arith, h.least, h.whole, more)) h.whole
     ]
 
-pub sealed-injective : (key s u : List ℕ) → IsBytes key → IsBytes s → IsBytes u → length u ≡ length s → IsPadded s
-    → sealed (aes key) s ≡ sealed (aes key) u → s ≡ u
-sealed-injective key s u hk hs hu same h e =
+pub padded_cipher-injective : (key s u : List ℕ) → IsBytes key → IsBytes s → IsBytes u → length u ≡ length s → IsPadded s
+    → padded_cipher (aes key) s ≡ padded_cipher (aes key) u → s ≡ u
+padded_cipher-injective key s u hk hs hu same h e =
     elim (cases_eq (length s) 16) [
       | inl one ↦
           let inv : Inverses (aes key) (aes_inverse key) = aes_inverses key hk in
           let ss : IsState s = record { long = one; small = hs } in
           let su : IsState u = record { long = same ∙ one; small = hu } in
           sym (inv.undone s ss)
-          ∙ ap (aes_inverse key) (sym (sealed_one (aes key) s one) ∙ e ∙ sealed_one (aes key) u (same ∙ one))
+          ∙ ap (aes_inverse key) (sym (padded_cipher_one (aes key) s one) ∙ e ∙ padded_cipher_one (aes key) u (same ∙ one))
           ∙ inv.undone u su
       | inr more ↦
           wrapped-injective key s u hk hs hu same (omega (arith, h.least, h.whole, more)) h.whole
-          (sym (sealed_more (aes key) s more) ∙ e ∙ sealed_more (aes key) u (λ k. more (sym same ∙ k)))
+          (sym (padded_cipher_more (aes key) s more) ∙ e ∙ padded_cipher_more (aes key) u (λ k. more (sym same ∙ k)))
     ]
