@@ -71,7 +71,7 @@ fn plain_length(text: &[u8]) -> Option<usize>
     if size > room || size + 7 < room {
         return None;
     }
-    if !same(&text[size + 8..], &[0; 7][..room - size]) {
+    if !same(&text[size + 8..], &[0; 8][..room - size]) {
         return None;
     }
     Some(size)
