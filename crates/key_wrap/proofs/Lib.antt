@@ -1,0 +1,14 @@
+pub mod Bytes
+pub mod Laid
+pub mod Undone
+pub mod Turning
+pub mod Rows
+pub mod Wraps
+pub mod Later
+pub mod Cipher
+pub mod Scattered
+pub mod Injective
+pub mod Padding
+pub mod Buffers
+pub mod Checked
+pub mod Lengths
