@@ -159,7 +159,7 @@ def many_frames():
 def first_refusal_decides():
     rows = [
         # an unknown service, before the state and the body
-        ("c501080000000000", "5c0108010000000000000000000000000000000000000000"),
+        ("c5010a0000000000", "5c010a010000000000000000000000000000000000000000"),
         ("c5017e0000000001ff", "5c017e010000000000000000000000000000000000000000"),
         ("c501000000000000", "5c0100010000000000000000000000000000000000000000"),
         ("c501ff0000000000", "5c01ff010000000000000000000000000000000000000000"),
@@ -211,6 +211,41 @@ def tests_and_roles():
     with Talk() as talk:
         for command, reply in rows:
             talk.ask(command, reply)
+        talk.ends(0, b"")
+
+
+def entering():
+    rows = [
+        ("c50106000000000101", "5c01060004"),
+        # a MAC key of 4 bytes for slot 3, of the domain Other, with 100 uses
+        ("c501080000000009030300000000006404", "5c01080006"),
+        # five bytes are more than the four that it has, four are not
+        ("c5010900000000054a65666500", "5c01090c06"),
+        ("c5010900000000044a656665", "5c01090006"),
+        # nothing else is permitted meanwhile
+        ("c501080000000009030300000000006404", "5c01080206"),
+        ("c5010e000000000103", "5c010e0206"),
+        # given up, and the slot is as empty as before
+        ("c5010b0000000000", "5c010b0004"),
+        ("c5010e000000000103", "5c010e0004"),
+        ("c5010c000000000103", "5c010c0004"),
+        ("c5010d0000000000", "5c010d0004"),
+        # no such slot
+        ("c5010c000000000110", "5c010c0304"),
+        ("c5010e000000000110", "5c010e0304"),
+        # the user may look, and do no more
+        ("c50106000000000102", "5c01060005"),
+        ("c5010e000000000103", "5c010e0005"),
+        ("c5010d0000000000", "5c010d0205"),
+        ("c501080000000009030300000000006404", "5c01080205"),
+    ]
+    with Talk() as talk:
+        talk.ask(POWER_ON_3, POWERED_ON)
+        for command in ("c501030000000000", "c501020000000000", "c501020000000000", "c501020000000000"):
+            talk.send(command)
+            talk.receive(24)
+        for command, begin in rows:
+            talk.ask(command, begin + "00" * 19)
         talk.ends(0, b"")
 
 
@@ -317,6 +352,7 @@ CASES = [
     many_frames,
     first_refusal_decides,
     tests_and_roles,
+    entering,
     longest_body,
     bad_frames,
     truncated_frames,
