@@ -1,7 +1,9 @@
 //! The bytes of a reply, in a buffer that is taken once.
-ghost use Rattle.std.specs.Prelude.{◌≡◌, ◌≤◌, ◌+◌, ◌++◌, [], length, take, drop, IfOk};
+ghost use Rattle.std.specs.Prelude.{◌≡◌, ◌≤◌, ◌+◌, ◌-◌, ◌++◌, [], length, take, drop, IfOk};
+ghost use Rattle.bits_core.specs.ByteList.{zeros};
 ghost use Rattle.bits_core.specs.Shown.{holding};
 
+use crate::wipe;
 use std::alloc::{AllocError, Global};
 use std::marker::Model;
 
@@ -54,7 +56,7 @@ impl Outbox {
     pub fn clear(&mut self)
         ensures { self.new ≡ holding [] self.old.room }
     {
-        self.buffer.fill(0);
+        zero_front(&mut self.buffer, self.used);
         self.used = 0;
     }
 
@@ -66,6 +68,15 @@ impl Outbox {
         write_at(&mut self.buffer, self.used, piece);
         self.used += piece.len();
     }
+}
+
+/// Makes the first `count` bytes zero, where the rest is.
+fn zero_front(buffer: &mut [u8], count: usize)
+    requires within { count ≤ length buffer.old }
+    requires rest { drop count buffer.old ≡ zeros (length buffer.old - count) }
+    ensures { buffer.new ≡ zeros (length buffer.old) }
+{
+    wipe(&mut buffer[..count]);
 }
 
 /// Writes a piece from place `at` on.
