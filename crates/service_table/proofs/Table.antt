@@ -27,6 +27,7 @@ states_keep state.Approved = refl
 states_keep state.Officer = refl
 states_keep state.User = refl
 states_keep state.Entry = refl
+states_keep state.Error = refl
 
 pub payload_needs_a_role : PayloadNeedsARole
 payload_needs_a_role asked found gives allowed = cc

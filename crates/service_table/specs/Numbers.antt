@@ -15,9 +15,10 @@ state_number state.Approved = 3
 state_number state.Officer = 4
 state_number state.User = 5
 state_number state.Entry = 6
+state_number state.Error = 7
 
 abbrev pub all_states : List State
-all_states = state.Off ∷ state.Init ∷ state.SelfTest ∷ state.Approved ∷ state.Officer ∷ state.User ∷ state.Entry ∷ []
+all_states = state.Off ∷ state.Init ∷ state.SelfTest ∷ state.Approved ∷ state.Officer ∷ state.User ∷ state.Entry ∷ state.Error ∷ []
 
 -- the state with this number, where one has it
 abbrev pub state_numbered : ℕ → Option State

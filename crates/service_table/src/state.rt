@@ -19,6 +19,8 @@ pub enum State {
     User,
     /// A parameter is being entered.
     Entry,
+    /// A test or the noise failed; only `Reset` leads out.
+    Error,
 }
 
 impl State {
@@ -34,6 +36,7 @@ impl State {
             State::Officer => 4,
             State::User => 5,
             State::Entry => 6,
+            State::Error => 7,
         }
     }
 
@@ -49,6 +52,7 @@ impl State {
             4 => Some(State::Officer),
             5 => Some(State::User),
             6 => Some(State::Entry),
+            7 => Some(State::Error),
             _ => None,
         }
     }

@@ -1,21 +1,21 @@
 // The table, against a copy that was written by hand.
 use crate::{Service, State, permitted, service_of};
 
-// A row for each service: its number, and whether it is permitted in the states 0 to 6.
-const ROWS: [(u8, [bool; 7]); 13] = [
-    (0x01, [true, false, false, false, false, false, false]),
-    (0x02, [false, false, true, false, false, false, false]),
-    (0x03, [false, true, false, true, true, true, false]),
-    (0x04, [true, true, true, true, true, true, true]),
-    (0x05, [true, true, true, true, true, true, true]),
-    (0x06, [false, false, false, true, true, true, false]),
-    (0x07, [false, true, true, true, true, true, true]),
-    (0x08, [false, false, false, false, true, false, false]),
-    (0x09, [false, false, false, false, false, false, true]),
-    (0x0b, [false, false, false, false, false, false, true]),
-    (0x0c, [false, false, false, false, true, false, false]),
-    (0x0d, [false, false, false, false, true, false, false]),
-    (0x0e, [false, false, false, false, true, true, false]),
+// A row for each service: its number, and a letter for each of the states 0 to 7 in which it is permitted.
+const ROWS: [(u8, &str); 13] = [
+    (0x01, "F......."),
+    (0x02, "..T....."),
+    (0x03, ".I.AOU.."),
+    (0x04, "FITAOUEX"),
+    (0x05, "FITAOUEX"),
+    (0x06, "...AOU.."),
+    (0x07, ".ITAOUEX"),
+    (0x08, "....O..."),
+    (0x09, "......E."),
+    (0x0b, "......E."),
+    (0x0c, "....O..."),
+    (0x0d, "....O..."),
+    (0x0e, "....OU.."),
 ];
 
 fn permitted_by_number(service: Service, state: u8) -> Option<bool> {
@@ -25,12 +25,13 @@ fn permitted_by_number(service: Service, state: u8) -> Option<bool> {
 #[test]
 fn follows_the_table(rt: HostRuntime) {
     for (number, row) in ROWS {
-        for state in 0..7u8 {
+        assert_eq!(rt; row.len(), 8);
+        for state in 0..8u8 {
             let found = service_of(number).and_then(|service| permitted_by_number(service, state));
-            assert_eq!(rt; found, Some(row[state as usize]));
+            assert_eq!(rt; found, Some(row.as_bytes()[state as usize] != b'.'));
         }
     }
     assert!(rt; service_of(0x00).is_none());
     assert!(rt; service_of(0x0a).is_none());
-    assert!(rt; State::from_number(7).is_none());
+    assert!(rt; State::from_number(8).is_none());
 }
