@@ -1,5 +1,6 @@
 -- What a reply stands for.
-use Rattle.std.specs.Prelude.{false, [], replicate}
+use Rattle.std.specs.Prelude.{◌≡◌, false, [], replicate}
+use Rattle.bits_core.specs.Shown.{holding}
 use Rattle.module_frames.specs.declared.reply.Reply.{Reply}
 use Rattle.service_table.specs.declared.state.State.TheVariants as state
 use Rattle.service_table.specs.declared.status.Status.TheVariants as status
@@ -13,15 +14,22 @@ frame_of reply = record {
   approved = reply.approved;
   code = reply.code;
   block = reply.block;
-  payload = [];
+  payload = reply.payload.bytes;
 }
 
-abbrev pub cleared_reply : Reply
-cleared_reply = record {
+-- the frame that is zero in each byte behind its first two
+abbrev pub cleared_frame : ReplyFrame
+cleared_frame = record {
   service = 0;
   status = status.Ok;
   state = state.Off;
   approved = false;
   code = 0;
   block = replicate 12 0;
+  payload = [];
 }
+
+-- all of the reply is zero, and so is all the room for its payload
+pub record IsCleared (reply : Reply) : Type 0 where
+  pub frame : frame_of reply ≡ cleared_frame
+  pub payload : reply.payload ≡ holding [] 65664

@@ -1,12 +1,15 @@
 // A reply, and its header.
-ghost use Rattle.std.specs.Prelude.{◌≡◌, IfOk};
-ghost use Rattle.module_frames.specs.Replies.{frame_of, cleared_reply};
+ghost use Rattle.std.specs.Prelude.{◌≡◌, ◌++◌, IfOk, length};
 ghost use Rattle.module_frames.specs.ReplyFrames.{reply_header, indicator};
 
+use bits_core::Outbox;
 use service_table::{State, Status};
 use std::alloc::{AllocError, Global};
 
-/// A reply: what the module answers to a command. Its payload is empty, since no service gives data yet.
+/// The longest payload that a reply may have, in bytes.
+pub const PAYLOAD_MAX: usize = 65_664;
+
+/// A reply: what the module answers to a command. By a rule of the type there is room for 65,664 bytes of payload.
 #[derive(Drop)]
 pub struct Reply {
     /// The number of the command's service.
@@ -21,6 +24,9 @@ pub struct Reply {
     pub code: u16,
     /// What a service that shows something tells.
     pub block: [u8; 12],
+    /// The data that the service gave.
+    pub payload: Outbox,
+    ghost room: { payload.room ≡ 65664 },
 }
 
 fn indicator(approved: bool) -> u8
@@ -29,11 +35,30 @@ fn indicator(approved: bool) -> u8
     if approved { 1 } else { 0 }
 }
 
+// Writes the four parts of a header one behind the other.
+fn put_parts(
+    into: &mut [u8; 24],
+    front: &[u8; 6],
+    code: &[u8; 2],
+    block: &[u8; 12],
+    payload: &[u8; 4],
+)
+    ensures { into.new ≡ front.now ++ (code.now ++ (block.now ++ payload.now)) }
+{
+    into[..6].copy_from_slice(front);
+    into[6..8].copy_from_slice(code);
+    into[8..20].copy_from_slice(block);
+    into[20..].copy_from_slice(payload);
+}
+
 impl Reply {
-    /// A cleared reply. It takes no memory as long as there is no payload.
-    pub fn new(_alloc: Global) -> Result<Reply, AllocError>
-        ensures { IfOk result (λ reply. reply ≡ cleared_reply) }
+    ghost use Rattle.module_frames.specs.Replies.{frame_of, IsCleared};
+
+    /// A cleared reply.
+    pub fn new(alloc: Global) -> Result<Reply, AllocError>
+        ensures { IfOk result IsCleared }
     {
+        let payload = Outbox::new(alloc, PAYLOAD_MAX)?;
         Ok(Reply {
             service: 0,
             status: Status::Ok,
@@ -41,7 +66,15 @@ impl Reply {
             approved: false,
             code: 0,
             block: [0; 12],
+            payload,
         })
+    }
+
+    // How many bytes of payload there are.
+    fn payload_length(&self) -> u32
+        ensures { result ≡ length self.now.payload.bytes }
+    {
+        self.payload.bytes().len() as u32
     }
 
     /// Writes the header of the reply's frame: 24 bytes.
@@ -56,16 +89,14 @@ impl Reply {
             self.state.number(),
             indicator(self.approved),
         ];
-        let payload: u32 = 0;
-        into[..6].copy_from_slice(&front);
-        into[6..8].copy_from_slice(&self.code.to_be_bytes());
-        into[8..20].copy_from_slice(&self.block);
-        into[20..].copy_from_slice(&payload.to_be_bytes());
+        let code = self.code.to_be_bytes();
+        let length = self.payload_length().to_be_bytes();
+        put_parts(into, &front, &code, &self.block, &length);
     }
 
-    /// Makes all of it zero.
+    /// Makes all of it zero, and the payload empty.
     pub fn clear(&mut self)
-        ensures { self.new ≡ cleared_reply }
+        ensures { IsCleared self.new }
     {
         self.service = 0;
         self.status = Status::Ok;
@@ -73,5 +104,6 @@ impl Reply {
         self.approved = false;
         self.code = 0;
         self.block = [0; 12];
+        self.payload.clear();
     }
 }

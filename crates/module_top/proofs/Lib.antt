@@ -5,3 +5,4 @@ pub mod Ending
 pub mod Words
 pub mod Outputs
 pub mod OneOutput
+pub mod Sending

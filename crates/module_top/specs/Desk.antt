@@ -10,6 +10,10 @@ use Rattle.state_model.specs.Represents.{Represents}
 use Rattle.state_model.specs.Step.{step}
 use Rattle.module_top.specs.Run.{Ran, run_commands, reply_bytes}
 
+-- where a content is told, a part of these bytes came to its end, and not all of them
+abbrev pub GainsPart : Option (List ℕ) → List ℕ → Option (List ℕ) → Type 0
+GainsPart before piece now = (count : ℕ) × (count < length piece) × Gains before (take count piece) now
+
 -- what serving works on: the module, and what the sink gained
 pub record Desk : Type 0 where
   pub kept : Kept

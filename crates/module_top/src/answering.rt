@@ -1,13 +1,15 @@
 // Pieces of a stream, and the replies to the commands that they end.
-ghost use Rattle.std.specs.Prelude.{◌≡◌, ◌≢◌, ◌≤◌, ◌<◌, ◌+◌, ◌^◌, ◌++◌, false, ℕ, List, OnOk, OnErr, length, take};
+ghost use Rattle.std.specs.Prelude.{◌≡◌, ◌≢◌, ◌≤◌, ◌+◌, ◌^◌, false, OnOk, OnErr, length};
 ghost use Rattle.outside.specs.Contents.{Gains};
 ghost use Rattle.outside.specs.Faults.{Rose};
 ghost use Rattle.module_frames.specs.Fragments.{IsPartial};
+ghost use Rattle.module_frames.specs.Replies.{frame_of};
+ghost use Rattle.module_frames.specs.ReplyFrames.{reply_spelling};
 ghost use Rattle.state_model.specs.MachineState.{MachineState};
 ghost use Rattle.state_model.specs.Represents.{Represents};
 ghost use Rattle.state_model.specs.Step.{step};
 ghost use Rattle.module_top.specs.Run.{reply_bytes};
-ghost use Rattle.module_top.specs.Desk.{ServedAll, ServedToFault, CutShort};
+ghost use Rattle.module_top.specs.Desk.{GainsPart, ServedAll, ServedToFault, CutShort};
 
 use module_frames::{Command, Fed, Frames, Reply};
 use outside::{Failed, Sink};
@@ -16,7 +18,7 @@ use state_model::Module;
 /// Writes all of a piece. A fault comes only where the sink's count rose, and a part of the piece is written then.
 pub fn write_all<K: Sink>(sink: &mut K, piece: &[u8]) -> Result<(), Failed>
     ensures whole { OnOk result (Gains (K.gained sink.old) piece.now (K.gained sink.new)) }
-    ensures part { OnErr result ((k : ℕ) × (k < length piece.now) × Gains (K.gained sink.old) (take k piece.now) (K.gained sink.new)) }
+    ensures part { OnErr result (GainsPart (K.gained sink.old) piece.now (K.gained sink.new)) }
     ensures rose { OnErr result (Rose (K.faults sink.old) (K.faults sink.new)) }
     ensures steady { OnOk result (K.faults sink.new ≡ K.faults sink.old) }
 {
@@ -25,6 +27,19 @@ pub fn write_all<K: Sink>(sink: &mut K, piece: &[u8]) -> Result<(), Failed>
         done += sink.write(&piece[done..])?;
     }
     Ok(())
+}
+
+// Writes a reply: its header, and then its payload where there is one.
+fn send<K: Sink>(reply: &Reply, replies: &mut K) -> Result<(), Failed>
+    ensures whole { OnOk result (Gains (K.gained replies.old) (reply_spelling (frame_of reply.now)) (K.gained replies.new)) }
+    ensures part { OnErr result (GainsPart (K.gained replies.old) (reply_spelling (frame_of reply.now)) (K.gained replies.new)) }
+    ensures rose { OnErr result (Rose (K.faults replies.old) (K.faults replies.new)) }
+    ensures steady { OnOk result (K.faults replies.new ≡ K.faults replies.old) }
+{
+    let mut header = [0; 24];
+    reply.header(&mut header);
+    write_all(replies, &header)?;
+    write_all(replies, reply.payload.bytes())
 }
 
 /// Does one command, and writes its reply.
@@ -37,15 +52,13 @@ pub fn answer<K: Sink>(
     ensures step { (s : MachineState) → Represents «module».old s → Represents «module».new (step s command.now).machine }
     ensures whole { OnOk result ((s : MachineState) → Represents «module».old s →
         Gains (K.gained replies.old) (reply_bytes s command.now) (K.gained replies.new)) }
-    ensures part { OnErr result ((s : MachineState) → Represents «module».old s → (k : ℕ) × (k < length (reply_bytes s command.now))
-        × Gains (K.gained replies.old) (take k (reply_bytes s command.now)) (K.gained replies.new)) }
+    ensures part { OnErr result ((s : MachineState) → Represents «module».old s →
+        GainsPart (K.gained replies.old) (reply_bytes s command.now) (K.gained replies.new)) }
     ensures rose { OnErr result (Rose (K.faults replies.old) (K.faults replies.new)) }
     ensures steady { OnOk result (K.faults replies.new ≡ K.faults replies.old) }
 {
     module.command(command, reply);
-    let mut header = [0; 24];
-    reply.header(&mut header);
-    write_all(replies, &header)?;
+    send(reply, replies)?;
     reply.clear();
     Ok(())
 }

@@ -47,6 +47,7 @@ return_for_request_tests state.User h = tt
 return_for_request_tests state.Off h = cc
 return_for_request_tests state.SelfTest h = cc
 return_for_request_tests state.Entry h = cc
+return_for_request_tests state.Error h = cc
 
 not_entering_for_request_tests : (found : State) → is_permitted service.RequestTests found ≡ true → found ≢ state.Entry
 not_entering_for_request_tests state.Entry h = λ e. cc

@@ -177,10 +177,9 @@ impl Module {
     }
 
     // EntryBytes: the piece is appended, unless it would pass the parameter's length.
-    fn entry_bytes(&mut self, piece: &[u8], block: &[u8; 12]) -> Status
-        requires entry { self.old.state ≡ State.Entry }
-        requires block { block.now ≡ no_block }
-        ensures { (s : MachineState) → Represents self.old s → Leaves (entry_bytes s piece.now) self.new result block.now }
+    fn entry_bytes(&mut self, piece: &[u8]) -> Status
+        requires { self.old.state ≡ State.Entry }
+        ensures { (s : MachineState) → Represents self.old s → Leaves (entry_bytes s piece.now) self.new result no_block }
     {
         if piece.len() > self.entry.length() - self.entry.filled {
             return Status::BadLength;
@@ -257,7 +256,7 @@ impl Module {
                 header,
                 length,
             }),
-            Request::EntryBytes { piece } => return self.entry_bytes(piece, block),
+            Request::EntryBytes { piece } => return self.entry_bytes(piece),
             Request::EntryAbort => self.entry_abort(),
             Request::Zeroise { slot } => self.zeroise(slot),
             Request::ZeroiseAll => self.zeroise_all(),

@@ -12,7 +12,7 @@ use Rattle.state_model.proofs.module.Module.entry_bytes.Goals as goal
 
 pub invariant_of-self : goal.invariant_of-self
 invariant_of-self c =
-    let entering = rw (← c.self.view_is) at c.requires.entry in
+    let entering = rw (← c.self.view_is) at c.requires in
     let within = underway_within c.self.inside.entry (c.self.invariant.entering entering) in
     let fits : c.self.inside.entry.filled + length c.args.piece.now ≤ entry_length c.self.inside.entry = omega (arith, within, c.length.ensures) in
     rw c.append.ensures (entry_bytes_kept (machine_of (kept_of c.self.inside)) c.args.piece.now c.self.invariant entering fits)
@@ -20,16 +20,16 @@ invariant_of-self c =
 pub returns : goal.returns
 returns c s represents =
     let m : MachineState = machine_of (kept_of c.self.inside) in
-    let entering = rw (← c.self.view_is) at c.requires.entry in
+    let entering = rw (← c.self.view_is) at c.requires in
     let within = underway_within c.self.inside.entry (c.self.invariant.entering entering) in
     let fits : c.self.inside.entry.filled + length c.args.piece.now ≤ entry_length c.self.inside.entry = omega (arith, within, c.length.ensures) in
     let after : Kept = record (kept_of c.self.inside) { entry = c.append.new.self } in
     let here : machine_of after ≡ record m { entry = with_piece m.entry c.args.piece.now } = rw c.append.ensures refl in
     let there : Represents after (record m { entry = with_piece m.entry c.args.piece.now }) =
     record { same = here; sound = entry_bytes_kept m c.args.piece.now c.self.invariant entering fits } in
-    let leaves : Leaves (done (record m { entry = with_piece m.entry c.args.piece.now }) no_block) after status.Ok c.args.block.now =
-    record { represents = there; same_status = refl; same_block = c.requires.block } in
-    let stepped : Leaves (entry_bytes m c.args.piece.now) after status.Ok c.args.block.now =
-    subst (λ t. Leaves t after status.Ok c.args.block.now) (entry_bytes_fits m c.args.piece.now fits) leaves in
+    let leaves : Leaves (done (record m { entry = with_piece m.entry c.args.piece.now }) no_block) after status.Ok no_block =
+    record { represents = there; same_status = refl; same_block = refl } in
+    let stepped : Leaves (entry_bytes m c.args.piece.now) after status.Ok no_block =
+    subst (λ t. Leaves t after status.Ok no_block) (entry_bytes_fits m c.args.piece.now fits) leaves in
     let same : m ≡ s = ap machine_of c.self.view_is ∙ represents.same in
-    subst (λ t. Leaves (entry_bytes t c.args.piece.now) after status.Ok c.args.block.now) same stepped
+    subst (λ t. Leaves (entry_bytes t c.args.piece.now) after status.Ok no_block) same stepped
