@@ -4,3 +4,7 @@ use Rattle.std.specs.Prelude.{Result, Ok, Err, OnErr}
 pub on_err : {T E P : Type 0} (r : Result T E) → P → OnErr r P
 on_err (Ok x) p = tt
 on_err (Err e) p = p
+
+pub on_err_then : {T E P Q : Type 0} (r : Result T E) → OnErr r P → (P → Q) → OnErr r Q
+on_err_then (Ok x) p f = tt
+on_err_then (Err e) p f = f p

@@ -3,7 +3,7 @@ ghost use Rattle.std.specs.Prelude.{◌≡◌, ◌≢◌, ◌≤◌, ◌<◌, []
 ghost use Rattle.outside.specs.Contents.{Takes, IsSpent};
 ghost use Rattle.outside.specs.Faults.{Rose};
 ghost use Rattle.module_frames.specs.Fragments.{IsPartial, new_fragment};
-ghost use Rattle.module_frames.specs.Replies.{cleared_reply};
+ghost use Rattle.module_frames.specs.Replies.{IsCleared};
 ghost use Rattle.state_model.specs.MachineState.{MachineState};
 ghost use Rattle.state_model.specs.Represents.{Represents};
 ghost use Rattle.module_top.specs.Run.{ending_of};
@@ -123,7 +123,7 @@ pub fn serve<S: Source, K: Sink>(
     ensures write_fault { result ≡ Ended.WriteFault → Rose (K.faults replies.old) (K.faults replies.new) }
     ensures writes_steady { result ≢ Ended.WriteFault → K.faults replies.new ≡ K.faults replies.old }
 
-    ensures zero { (frames.new.bytes ≡ []) × (reply.new ≡ cleared_reply) × (chunk.new ≡ replicate (length chunk.old) 0) }
+    ensures zero { (frames.new.bytes ≡ []) × IsCleared reply.new × (chunk.new ≡ replicate (length chunk.old) 0) }
 {
     let ended = serve_stream(module, commands, replies, frames, reply, chunk);
     frames.clear();
