@@ -5,3 +5,4 @@ pub mod Spellings
 pub mod Splitting
 pub mod Holding
 pub mod Feeding
+pub mod Heads

@@ -8,4 +8,5 @@ pub mod Readers
 pub mod Steps
 pub mod ReplyFrames
 pub mod Replies
+pub mod ReplyHeads
 pub mod PublicState

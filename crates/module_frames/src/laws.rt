@@ -1,8 +1,18 @@
 // Laws of the grammar, each the contract of a function without a body.
+ghost use Rattle.module_frames.specs.ReplyHeads.{HeadsReadInOneWay, HeadsReadBack, HeadersSpellHeads, HeadersReadBack};
 ghost use Rattle.module_frames.specs.Laws.{SpellingsAreNoPrefixes, SplitsInOneWay};
 
 /// No command's frame is the beginning of another's, so bytes split into commands and a rest in one way.
 pub fn splits_in_one_way()
     ensures no_prefix { SpellingsAreNoPrefixes }
     ensures one_way { SplitsInOneWay }
+{}
+
+/// No two heads of replies are spelled alike, so a head is read from what it is spelled by.
+/// The header of a reply's frame spells the reply's head, and reads back as it.
+pub fn heads_read_back()
+    ensures one_way { HeadsReadInOneWay }
+    ensures back { HeadsReadBack }
+    ensures spelled { HeadersSpellHeads }
+    ensures headers { HeadersReadBack }
 {}

@@ -3,12 +3,16 @@
 
 mod command;
 mod frames;
+mod head;
 mod laws;
 mod reply;
 mod request;
+#[cfg(test)]
+mod tests;
 
 pub use command::Command;
 pub use frames::{Fed, Frames};
-pub use laws::splits_in_one_way;
+pub use head::{PAYLOAD_MAX, ReplyHead, reply_head};
+pub use laws::{heads_read_back, splits_in_one_way};
 pub use reply::Reply;
 pub use request::{Request, read_request};
