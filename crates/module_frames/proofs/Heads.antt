@@ -9,8 +9,9 @@ use Rattle.service_table.specs.declared.state.State.{State}
 use Rattle.service_table.specs.declared.status.Status.{Status}
 use Rattle.service_table.specs.Numbers.{state_number, state_numbered, all_states, status_number, status_numbered, all_statuses}
 use Rattle.module_frames.specs.declared.head.ReplyHead.{ReplyHead}
-use Rattle.module_frames.specs.ReplyFrames.{reply_header, indicator}
-use Rattle.module_frames.specs.ReplyHeads.{head_spelling, SpellsNoHead, indicated, head_of, HeadsReadInOneWay, HeadsReadBack, HeadersReadBack}
+use Rattle.module_frames.specs.ReplyFrames.{head_of, reply_header}
+use Rattle.module_frames.specs.ReplyHeads.{head_spelling, SpellsNoHead, indicator, indicated}
+use Rattle.module_frames.specs.Laws.{HeadsReadInOneWay, HeadsReadBack, HeadersReadBack}
 
 -- what is found passes the test
 found : {X : Type 0} (test : X → Bool) (xs : List X) (x : X) → find test xs ≡ Some x → test x ≡ true

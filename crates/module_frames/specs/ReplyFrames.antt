@@ -1,9 +1,9 @@
--- The grammar of reply frames. Numbers are big-endian.
-use Rattle.std.specs.Prelude.{ℕ, Bool, List, ◌∷◌, ◌++◌, length, if◌then◌else◌}
-use Rattle.std.specs.Int.{to_be_bytes, w16, w32}
+-- The grammar of reply frames.
+use Rattle.std.specs.Prelude.{ℕ, Bool, List, ◌++◌, length}
 use Rattle.service_table.specs.declared.state.State.{State}
 use Rattle.service_table.specs.declared.status.Status.{Status}
-use Rattle.service_table.specs.Numbers.{state_number, status_number}
+use Rattle.module_frames.specs.declared.head.ReplyHead.{ReplyHead}
+use Rattle.module_frames.specs.ReplyHeads.{head_spelling}
 
 -- a reply: the command's service, its status, the state after it, whether it was an approved service, the error code,
 -- the status block of 12 bytes, and the payload
@@ -16,15 +16,21 @@ pub record ReplyFrame : Type 0 where
   pub block : List ℕ
   pub payload : List ℕ
 
--- the indicator of approved services
-abbrev pub indicator : Bool → ℕ
-indicator approved = if approved then 1 else 0
+-- the head of a reply
+abbrev pub head_of : ReplyFrame → ReplyHead
+head_of reply = record {
+  service = reply.service;
+  status = reply.status;
+  state = reply.state;
+  approved = reply.approved;
+  code = reply.code;
+  block = reply.block;
+  length = length reply.payload;
+}
 
--- byte 5C, version 01, service, status, state, indicator, error code in two bytes, block, the payload's length in four bytes
+-- its head, spelled in 24 bytes
 abbrev pub reply_header : ReplyFrame → List ℕ
-reply_header reply =
-    0x5c ∷ 0x01 ∷ reply.service ∷ status_number reply.status ∷ state_number reply.state ∷ indicator reply.approved
-    ∷ (to_be_bytes w16 reply.code ++ (reply.block ++ to_be_bytes w32 (length reply.payload)))
+reply_header reply = head_spelling (head_of reply)
 
 abbrev pub reply_spelling : ReplyFrame → List ℕ
 reply_spelling reply = reply_header reply ++ reply.payload

@@ -1,10 +1,13 @@
 -- The grammar of a reply's head: the first 24 bytes of its frame. Numbers are big-endian.
-use Rattle.std.specs.Prelude.{◌≡◌, ◌==◌, ◌≤◌, ◌<◌, ◌^◌, ℕ, Bool, true, false, List, [], ◌∷◌, ◌++◌, length, find, Option, Some}
+use Rattle.std.specs.Prelude.{◌≡◌, ◌==◌, ◌≤◌, ◌<◌, ◌^◌, ℕ, Bool, true, false, List, [], ◌∷◌, ◌++◌, length, find, Option, if◌then◌else◌}
 use Rattle.std.specs.Option.{MatchOption}
 use Rattle.std.specs.Int.{to_be_bytes, w16, w32}
 use Rattle.service_table.specs.Numbers.{state_number, status_number}
 use Rattle.module_frames.specs.declared.head.ReplyHead.{ReplyHead}
-use Rattle.module_frames.specs.ReplyFrames.{ReplyFrame, reply_header, indicator}
+
+-- the indicator of approved services
+abbrev pub indicator : Bool → ℕ
+indicator approved = if approved then 1 else 0
 
 -- byte 5C, version 01, service, status, state, indicator, error code in two bytes, block, the payload's length in four bytes
 abbrev pub head_spelling : ReplyHead → List ℕ
@@ -36,32 +39,3 @@ ReadsHead bytes answer = MatchOption answer (SpellsNoHead bytes) (λ head. IsRep
 -- whether the service was an approved one, by the indicator, where it is one
 abbrev pub indicated : ℕ → Option Bool
 indicated number = find (λ approved. indicator approved == number) (false ∷ true ∷ [])
-
--- the head of a reply
-abbrev pub head_of : ReplyFrame → ReplyHead
-head_of reply = record {
-  service = reply.service;
-  status = reply.status;
-  state = reply.state;
-  approved = reply.approved;
-  code = reply.code;
-  block = reply.block;
-  length = length reply.payload;
-}
-
--- no two heads are spelled alike
-abbrev pub HeadsReadInOneWay : Type 0
-HeadsReadInOneWay = (a b : ReplyHead) → HasWidths a → HasWidths b → head_spelling a ≡ head_spelling b → a ≡ b
-
--- what is read from the bytes that spell a head is the head
-abbrev pub HeadsReadBack : Type 0
-HeadsReadBack = (head : ReplyHead) (bytes : List ℕ) (answer : Option ReplyHead) → IsReplyHead head bytes → ReadsHead bytes answer → answer ≡ Some head
-
--- the header of a reply's frame is the spelling of its head
-abbrev pub HeadersSpellHeads : Type 0
-HeadersSpellHeads = (reply : ReplyFrame) → reply_header reply ≡ head_spelling (head_of reply)
-
--- what is read from the header of a reply's frame is the reply's head
-abbrev pub HeadersReadBack : Type 0
-HeadersReadBack = (reply : ReplyFrame) (answer : Option ReplyHead) → HasWidths (head_of reply) → length reply.payload ≤ 65664
-    → ReadsHead (reply_header reply) answer → answer ≡ Some (head_of reply)

@@ -1,6 +1,5 @@
 // Laws of the grammar, each the contract of a function without a body.
-ghost use Rattle.module_frames.specs.ReplyHeads.{HeadsReadInOneWay, HeadsReadBack, HeadersSpellHeads, HeadersReadBack};
-ghost use Rattle.module_frames.specs.Laws.{SpellingsAreNoPrefixes, SplitsInOneWay};
+ghost use Rattle.module_frames.specs.Laws.{SpellingsAreNoPrefixes, SplitsInOneWay, HeadsReadInOneWay, HeadsReadBack, HeadersReadBack};
 
 /// No command's frame is the beginning of another's, so bytes split into commands and a rest in one way.
 pub fn splits_in_one_way()
@@ -9,10 +8,9 @@ pub fn splits_in_one_way()
 {}
 
 /// No two heads of replies are spelled alike, so a head is read from what it is spelled by.
-/// The header of a reply's frame spells the reply's head, and reads back as it.
+/// The header of a reply's frame reads back as the reply's head.
 pub fn heads_read_back()
     ensures one_way { HeadsReadInOneWay }
     ensures back { HeadsReadBack }
-    ensures spelled { HeadersSpellHeads }
     ensures headers { HeadersReadBack }
 {}

@@ -1,13 +1,12 @@
 // A reply, and its header.
 ghost use Rattle.std.specs.Prelude.{◌≡◌, ◌++◌, IfOk, length};
-ghost use Rattle.module_frames.specs.ReplyFrames.{reply_header, indicator};
+ghost use Rattle.module_frames.specs.ReplyHeads.{indicator};
+ghost use Rattle.module_frames.specs.ReplyFrames.{reply_header};
 
+use crate::PAYLOAD_MAX;
 use bits_core::Outbox;
 use service_table::{State, Status};
 use std::alloc::{AllocError, Global};
-
-/// The longest payload that a reply may have, in bytes.
-pub const PAYLOAD_MAX: usize = 65_664;
 
 /// A reply: what the module answers to a command. By a rule of the type there is room for 65,664 bytes of payload.
 #[derive(Drop)]

@@ -1,6 +1,8 @@
 // Heads of replies, against rows that were written by hand.
-use crate::{PAYLOAD_MAX, ReplyHead, reply_head};
+use crate::{PAYLOAD_MAX, Reply, ReplyHead, reply_head};
+use bits_core::{Enabled, Port};
 use service_table::{State, Status};
+use std::test::Fail;
 
 const SHOWN: [u8; 24] = [
     0x5c, 0x01, 0x04, 0x00, 0x01, 0x00, 0x00, 0x00, 0x00, 0x00, 0x00, 0x00, 0x00, 0x00, 0x00, 0x03,
@@ -68,4 +70,26 @@ fn broken_heads_are_refused(rt: HostRuntime) {
         bytes[place] = byte;
         assert!(rt; reply_head(&bytes).is_none());
     }
+}
+
+#[test]
+fn a_payload_is_told_in_the_header(rt: HostRuntime) -> Result<(), Fail> {
+    let mut reply = Reply::new(rt.alloc())?;
+    reply.service = 0x10;
+    reply.state = State::User;
+    reply.approved = true;
+    {
+        let mut port = Port::<Enabled>::over(&mut reply.payload);
+        port.put(&[7; 32]);
+    }
+    let mut header = [0; 24];
+    reply.header(&mut header);
+    assert_eq!(rt; header, DIGEST);
+    assert_eq!(rt; reply.payload.bytes(), [7; 32].as_slice());
+    reply.clear();
+    reply.header(&mut header);
+    assert_eq!(rt; reply_head(&header).map(|head| head.length), Some(0));
+    assert_eq!(rt; reply.payload.bytes().len(), 0);
+    assert_eq!(rt; reply.payload.room(), PAYLOAD_MAX);
+    Ok(())
 }

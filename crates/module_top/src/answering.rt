@@ -29,8 +29,8 @@ pub fn write_all<K: Sink>(sink: &mut K, piece: &[u8]) -> Result<(), Failed>
     Ok(())
 }
 
-// Writes a reply: its header, and then its payload where there is one.
-fn send<K: Sink>(reply: &Reply, replies: &mut K) -> Result<(), Failed>
+/// Writes a reply: its header, and then its payload where there is one.
+pub fn send<K: Sink>(reply: &Reply, replies: &mut K) -> Result<(), Failed>
     ensures whole { OnOk result (Gains (K.gained replies.old) (reply_spelling (frame_of reply.now)) (K.gained replies.new)) }
     ensures part { OnErr result (GainsPart (K.gained replies.old) (reply_spelling (frame_of reply.now)) (K.gained replies.new)) }
     ensures rose { OnErr result (Rose (K.faults replies.old) (K.faults replies.new)) }
