@@ -3,7 +3,7 @@ use Rattle.std.proofs.Common.{◌≡◌, ◌≢◌, ◌++◌, ◌<◌, ◌≤◌
 use Rattle.std.specs.Option.{option_map_or}
 use Rattle.std.proofs.lemmas.List.{append_assoc, take_at, drop_at}
 use Rattle.std.proofs.Math.Seq.{take-add}
-use Rattle.module_frames.specs.Streams.{first_fault, fault_from}
+use Rattle.module_frames.specs.Streams.{fault_from}
 use Rattle.module_frames.proofs.Headers.{fault_stays, fault_from_stays, shown_fault}
 use Rattle.module_frames.proofs.Spellings.{broken_begins_none}
 use Rattle.state_model.specs.Kept.{Kept}

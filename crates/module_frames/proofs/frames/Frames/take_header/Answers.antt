@@ -1,5 +1,4 @@
-use Rattle.std.proofs.Common.{◌≡◌, ◌<◌, ◌+◌, ◌++◌, ℕ, List, [], Some, None, arith, sym, ◌∙◌, ap, refl, take}
-use Rattle.module_frames.specs.Streams.{first_fault}
+use Rattle.std.proofs.Common.{◌≡◌, ◌<◌, ℕ, List, [], Some, arith, sym, ◌∙◌, ap, refl}
 use Rattle.module_frames.specs.Fragments.{Fragment}
 use Rattle.module_frames.specs.CommandFrames.{CommandFrame}
 use Rattle.module_frames.proofs.Headers.{first_fault-nil}
