@@ -1,11 +1,11 @@
 -- What a reader of frames answers to a piece.
-use Rattle.std.proofs.Common.{◌≡◌, ◌≤◌, ◌<◌, ◌+◌, ◌-◌, ◌++◌, ℕ, true, false, List, [], length, take, drop, refl, sym, ◌∙◌, ap, arith, length-append}
+use Rattle.std.proofs.Common.{◌≡◌, ◌≤◌, ◌<◌, ◌+◌, ◌-◌, ◌++◌, ℕ, List, [], None, Some, length, take, drop, refl, sym, ◌∙◌, ap, arith, length-append}
 use Rattle.std.specs.Prelude.{min}
 use Rattle.std.proofs.lemmas.List.{append_assoc, length-take-le, length-drop, take_all}
 use Rattle.std.proofs.Math.Seq.{take-add}
 use Rattle.module_frames.specs.declared.frames.Fed.TheVariants as fed
 use Rattle.module_frames.specs.Streams.{body_length}
-use Rattle.module_frames.specs.Fragments.{Fragment, Feeds, IsPartial, IsBroken, Stands}
+use Rattle.module_frames.specs.Fragments.{Fragment, Feeds, IsPartial, IsBrokenAt, Stands}
 use Rattle.module_frames.proofs.Headers.{body_length-append}
 
 -- a piece was taken in two steps: so many bytes for the header, and so many of those behind for the body
@@ -23,26 +23,26 @@ taken_once {old} {mid} {new} {piece} {head} {body} taken =
     ∙ ap (λ xs. record old { bytes = xs })
     (append_assoc old.bytes (take head piece) (take body (drop head piece)) ∙ ap (λ xs. old.bytes ++ xs) (sym (take-add head body piece)))
 
-pub feeds_whole : {old mid new : Fragment} {piece : List ℕ} {head body : ℕ} → old.broken ≡ false → TakenTwice old mid new piece head body → Stands new
+pub feeds_whole : {old mid new : Fragment} {piece : List ℕ} {head body : ℕ} → old.fault ≡ None → TakenTwice old mid new piece head body → Stands new
     → Feeds old piece (fed.Whole (head + body)) new
 feeds_whole {old} {mid} {new} {piece} {head} {body} sound taken stands = record {
   before_fault = λ _. (omega (arith, taken.within, taken.fits, length-drop head piece), taken_once taken, stands);
-  after_fault = λ broken. cc;
+  after_fault = λ place broken. cc;
 }
 
-pub feeds_more : {old mid new : Fragment} {piece : List ℕ} {head body : ℕ} → old.broken ≡ false → TakenTwice old mid new piece head body
+pub feeds_more : {old mid new : Fragment} {piece : List ℕ} {head body : ℕ} → old.fault ≡ None → TakenTwice old mid new piece head body
     → head + body ≡ length piece → IsPartial new.bytes → Feeds old piece fed.More new
 feeds_more {old} {mid} {new} {piece} {head} {body} sound taken all partial = record {
   before_fault = λ _. (taken_once taken ∙ ap (λ xs. record old { bytes = old.bytes ++ xs }) (take_all (head + body) piece (omega (arith, all))), partial);
-  after_fault = λ broken. cc;
+  after_fault = λ place broken. cc;
 }
 
-pub feeds_fault : {old new : Fragment} {piece : List ℕ} → old.broken ≡ false → new ≡ record old { bytes = []; broken = true }
-    → IsBroken (old.bytes ++ piece) → Feeds old piece fed.BadFrame new
-feeds_fault sound gone fault = record { before_fault = λ _. (gone, fault); after_fault = λ broken. cc }
+pub feeds_fault : {old new : Fragment} {piece : List ℕ} {place : ℕ} → old.fault ≡ None → new ≡ record old { bytes = []; fault = Some place }
+    → IsBrokenAt old.offset (old.bytes ++ piece) place → Feeds old piece (fed.BadFrame place) new
+feeds_fault sound gone fault = record { before_fault = λ _. (gone, fault); after_fault = λ other broken. cc }
 
-pub feeds_broken : {old : Fragment} {piece : List ℕ} → old.broken ≡ true → Feeds old piece fed.BadFrame old
-feeds_broken broken = record { before_fault = λ sound. cc; after_fault = λ _. (refl, refl) }
+pub feeds_broken : {old : Fragment} {piece : List ℕ} {place : ℕ} → old.fault ≡ Some place → Feeds old piece (fed.BadFrame place) old
+feeds_broken broken = record { before_fault = λ sound. cc; after_fault = λ other same. (cc, refl) }
 
 -- where the body isn't whole, all of the piece was taken
 pub all_taken : {old mid new : Fragment} {piece : List ℕ} {head body : ℕ} → TakenTwice old mid new piece head body → 8 ≤ length mid.bytes

@@ -1,41 +1,58 @@
 -- The first eight bytes: what they tell, and what shows in more bytes.
-use Rattle.std.proofs.Common.{◌≡◌, ◌≤◌, ◌<◌, ◌++◌, ℕ, zero, suc, Bool, true, false, List, [], ◌∷◌, Option, Some, None, length, get_or, refl, arith, if◌then◌else◌}
-use Rattle.std.specs.Prelude.{IsSome, nat_lt}
+use Rattle.std.proofs.Common.{◌≡◌, ◌≤◌, ◌<◌, ◌+◌, ◌++◌, ℕ, zero, suc, Bool, true, false, List, [], ◌∷◌, Option, Some, None, length, get_or, refl, sym, ◌∙◌, ap, arith, if◌then◌else◌}
+use Rattle.std.specs.Prelude.{nat_lt}
+use Rattle.std.specs.Option.{option_map}
 use Rattle.std.specs.Int.{from_be_bytes, w32}
-use Rattle.module_frames.specs.Streams.{first_fault, body_length, length_bytes, is_too_long}
+use Rattle.module_frames.specs.Streams.{first_fault, fault_from, body_length, length_bytes, is_too_long}
 
 -- with nothing there is no fault
 pub first_fault-nil : first_fault [] ≡ None
 unfolding first_fault body_length
 first_fault-nil = refl
 
-one_test : (p : Bool) (y : Option ℕ) → IsSome {T = ℕ} (if p then Some 0 else None) → IsSome {T = ℕ} (if p then Some 0 else y)
-one_test true y h = h
-one_test false y h = cc
+one_test : (p : Bool) (y : Option ℕ) (place : ℕ) → ◌≡◌ {A = Option ℕ} (if p then Some 0 else None) (Some place) → ◌≡◌ {A = Option ℕ} (if p then Some 0 else y) (Some place)
+one_test true y place h = h
+one_test false y place h = cc
 
-two_tests : (p q : Bool) (y : Option ℕ) → IsSome {T = ℕ} (if p then Some 0 else if q then Some 1 else None) → IsSome {T = ℕ} (if p then Some 0 else if q then Some 1 else y)
-two_tests true q y h = h
-two_tests false q y h = elim q as (λ v. IsSome {T = ℕ} (if v then Some 1 else None) → IsSome {T = ℕ} (if v then Some 1 else y)) [ true ↦ λ k. k | false ↦ λ k. cc ] h
+two_tests : (p q : Bool) (y : Option ℕ) (place : ℕ) → ◌≡◌ {A = Option ℕ} (if p then Some 0 else if q then Some 1 else None) (Some place)
+    → ◌≡◌ {A = Option ℕ} (if p then Some 0 else if q then Some 1 else y) (Some place)
+two_tests true q y place h = h
+two_tests false true y place h = h
+two_tests false false y place h = cc
 
-three_tests : (p q r : Bool) (y : Option ℕ) → IsSome {T = ℕ} (if p then Some 0 else if q then Some 1 else if r then Some 3 else None)
-    → IsSome {T = ℕ} (if p then Some 0 else if q then Some 1 else if r then Some 3 else y)
-three_tests true q r y h = h
-three_tests false true r y h = h
-three_tests false false true y h = h
-three_tests false false false y h = cc
+three_tests : (p q r : Bool) (y : Option ℕ) (place : ℕ) → ◌≡◌ {A = Option ℕ} (if p then Some 0 else if q then Some 1 else if r then Some 3 else None) (Some place)
+    → ◌≡◌ {A = Option ℕ} (if p then Some 0 else if q then Some 1 else if r then Some 3 else y) (Some place)
+three_tests true q r y place h = h
+three_tests false true r y place h = h
+three_tests false false true y place h = h
+three_tests false false false y place h = cc
 
--- a fault that shows stays, however the bytes go on
-pub fault_stays : (bytes more : List ℕ) → IsSome (first_fault bytes) → IsSome (first_fault (bytes ++ more))
+-- a fault that shows stays where it is, however the bytes go on
+pub fault_stays : (bytes more : List ℕ) (place : ℕ) → first_fault bytes ≡ Some place → first_fault (bytes ++ more) ≡ Some place
 unfolding first_fault body_length
-fault_stays [] more h = cc
-fault_stays (a ∷ []) more h = one_test _ _ h
-fault_stays (a ∷ b ∷ []) more h = two_tests _ _ _ h
-fault_stays (a ∷ b ∷ c ∷ []) more h = two_tests _ _ _ h
-fault_stays (a ∷ b ∷ c ∷ d ∷ []) more h = three_tests _ _ _ _ h
-fault_stays (a ∷ b ∷ c ∷ d ∷ e ∷ []) more h = three_tests _ _ _ _ h
-fault_stays (a ∷ b ∷ c ∷ d ∷ e ∷ f ∷ []) more h = three_tests _ _ _ _ h
-fault_stays (a ∷ b ∷ c ∷ d ∷ e ∷ f ∷ g ∷ []) more h = three_tests _ _ _ _ h
-fault_stays (a ∷ b ∷ c ∷ d ∷ e ∷ f ∷ g ∷ h ∷ rest) more k = k
+fault_stays [] more place h = cc
+fault_stays (a ∷ []) more place h = one_test _ _ place h
+fault_stays (a ∷ b ∷ []) more place h = two_tests _ _ _ place h
+fault_stays (a ∷ b ∷ c ∷ []) more place h = two_tests _ _ _ place h
+fault_stays (a ∷ b ∷ c ∷ d ∷ []) more place h = three_tests _ _ _ _ place h
+fault_stays (a ∷ b ∷ c ∷ d ∷ e ∷ []) more place h = three_tests _ _ _ _ place h
+fault_stays (a ∷ b ∷ c ∷ d ∷ e ∷ f ∷ []) more place h = three_tests _ _ _ _ place h
+fault_stays (a ∷ b ∷ c ∷ d ∷ e ∷ f ∷ g ∷ []) more place h = three_tests _ _ _ _ place h
+fault_stays (a ∷ b ∷ c ∷ d ∷ e ∷ f ∷ g ∷ h ∷ rest) more place k = k
+
+fault_within : (start : ℕ) (fault : Option ℕ) (place : ℕ) → option_map (λ within. start + within) fault ≡ Some place → (within : ℕ) × (fault ≡ Some within)
+fault_within start None place h = cc
+fault_within start (Some within) place h = (within, refl)
+
+-- bytes that show a fault at a place in the stream show one
+pub shown_fault : (start : ℕ) (bytes : List ℕ) (place : ℕ) → fault_from start bytes ≡ Some place → (within : ℕ) × (first_fault bytes ≡ Some within)
+shown_fault start bytes place h = fault_within start (first_fault bytes) place h
+
+-- and it stays there in the stream
+pub fault_from_stays : (start : ℕ) (bytes more : List ℕ) (place : ℕ) → fault_from start bytes ≡ Some place → fault_from start (bytes ++ more) ≡ Some place
+fault_from_stays start bytes more place h =
+    let shown = shown_fault start bytes place h in
+    ap (λ fault. option_map (λ within. start + within) fault) (fault_stays bytes more shown.0 shown.1 ∙ sym shown.1) ∙ h
 
 -- bytes with a whole header in front
 pub record HeadedBytes (bytes : List ℕ) : Type 0 where

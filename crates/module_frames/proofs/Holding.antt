@@ -1,13 +1,14 @@
 -- What a reader of frames holds.
-use Rattle.std.proofs.Common.{◌≡◌, ◌≤◌, ◌<◌, ◌+◌, ◌-◌, ◌^◌, ◌++◌, ◌⊎◌, inl, inr, ℕ, false, List, [], None, length, take, drop, get_or, replicate, sym, ◌∙◌, ap, subst, arith, length-append}
-use Rattle.std.specs.Prelude.{IsSome, min}
+use Rattle.std.proofs.Common.{◌≡◌, ◌≤◌, ◌<◌, ◌+◌, ◌-◌, ◌^◌, ◌++◌, ◌⊎◌, inl, inr, ℕ, List, [], None, Some, length, take, drop, get_or, replicate, sym, ◌∙◌, ap, subst, arith, length-append}
+use Rattle.std.specs.Prelude.{min}
+use Rattle.std.specs.Option.{option_map}
 use Rattle.std.specs.Int.{to_be_bytes, w32}
 use Rattle.std.proofs.lemmas.Bool.{cases_lt}
 use Rattle.std.proofs.lemmas.List.{append-nil, append_assoc, length-drop, length-take-le, take_all, take_at, drop_at, drop-drop, drop-replicate, take-append-drop, get_or_append_left}
 use Rattle.module_frames.specs.declared.frames.Frames.TheInside.{Inside}
 use Rattle.module_frames.specs.CommandFrames.{CommandFrame, command_spelling, IsCommandFrame}
 use Rattle.module_frames.specs.Streams.{first_fault, body_length, length_bytes}
-use Rattle.module_frames.specs.Fragments.{IsPartial, IsBroken}
+use Rattle.module_frames.specs.Fragments.{IsPartial, IsBrokenAt}
 use Rattle.module_frames.specs.Readers.{held_by, IsReader}
 use Rattle.module_frames.proofs.Headers.{first_fault-append, first_fault-nil, body_length-append, fault_stays}
 use Rattle.module_frames.proofs.Splitting.{same_command}
@@ -133,20 +134,20 @@ length-filled r piece header count reader filled =
 
 -- where they show a fault, what was held and the piece do
 pub filled_broken : (r : Inside) (piece header : List ℕ) (count : ℕ) → IsReader r → Filled r piece header count
-    → IsSome (first_fault (take (r.count + count) header)) → IsBroken (held_by r ++ piece)
-filled_broken r piece header count reader filled fault =
-    let front = rw (filled_front r piece header count reader filled) at fault in
+    → (within : ℕ) → first_fault (take (r.count + count) header) ≡ Some within → IsBrokenAt r.offset (held_by r ++ piece) (r.offset + within)
+filled_broken r piece header count reader filled within fault =
+    let front : first_fault (held_by r ++ take count piece) ≡ Some within = ap first_fault (sym (filled_front r piece header count reader filled)) ∙ fault in
     let all : (held_by r ++ take count piece) ++ drop count piece ≡ held_by r ++ piece =
     append_assoc (held_by r) (take count piece) (drop count piece) ∙ ap (λ xs. held_by r ++ xs) (take-append-drop count piece) in
-    let some = subst (λ xs. IsSome (first_fault xs)) all (fault_stays (held_by r ++ take count piece) (drop count piece) front) in
-    record { fault = some; unfinished = broken_begins_none (held_by r ++ piece) some }
+    let some : first_fault (held_by r ++ piece) ≡ Some within = ap first_fault (sym all) ∙ fault_stays (held_by r ++ take count piece) (drop count piece) within front in
+    record { fault = ap (λ place. option_map (λ n. r.offset + n) place) some; unfinished = broken_begins_none (held_by r ++ piece) within some }
 
 -- a header that was filled up without a fault keeps the reader's rules, with the command begun where it is whole
 pub filled_reader : (r : Inside) (piece header : List ℕ) (count : ℕ) (command : CommandFrame) → IsReader r → Filled r piece header count
-    → r.broken ≡ false → r.offset + length (held_by r) + length piece ≤ 2 ^ 63
+    → r.fault ≡ None → r.offset + length (held_by r) + length piece ≤ 2 ^ 63
     → first_fault (take (r.count + count) header) ≡ None
     → (r.count + count < 8 → command ≡ r.command) → (r.count + count ≡ 8 → command ≡ record { service = get_or header 2 0; body = [] })
-    → IsReader (record { offset = r.offset; header = header; count = r.count + count; command = command; broken = r.broken })
+    → IsReader (record { offset = r.offset; header = header; count = r.count + count; command = command; fault = r.fault })
 filled_reader r piece header count command reader filled fresh short sound same begun =
     let room = length-filled r piece header count reader filled in
     let empty : command.body ≡ [] = elim (cases_lt (r.count + count) 8) [
@@ -164,7 +165,7 @@ filled_reader r piece header count command reader filled fresh short sound same 
       headless = λ less. same less ∙ reader.headless filled.short;
       headed = λ whole. ap (λ (c : CommandFrame). c.service) (begun whole);
       within = λ whole. omega (arith, ap length empty);
-      fresh = λ broken. cc;
+      fresh = λ place broken. cc;
       short = omega (arith, long, short, filled.taken, (held_short r reader filled.short).0);
     }
 

@@ -1,6 +1,6 @@
 -- What the frame of a command begins with, and which bytes are one.
-use Rattle.std.proofs.Common.{◌≡◌, ◌≤◌, ◌<◌, ◌+◌, ◌++◌, ◌⊎◌, ℕ, false, List, [], ◌∷◌, None, length, get_or, refl, sym, ◌∙◌, ap, arith, length-append}
-use Rattle.std.specs.Prelude.{IsSome, nat_lt}
+use Rattle.std.proofs.Common.{◌≡◌, ◌≤◌, ◌<◌, ◌+◌, ◌++◌, ◌⊎◌, ℕ, false, List, [], ◌∷◌, None, Some, length, get_or, refl, sym, ◌∙◌, ap, arith, length-append}
+use Rattle.std.specs.Prelude.{nat_lt}
 use Rattle.std.specs.Int.{to_be_bytes, w32}
 use Rattle.std.proofs.lemmas.Bool.Decides.{nat_tests}
 use Rattle.std.proofs.lemmas.List.{nil_from_length}
@@ -28,10 +28,10 @@ first_fault-spelling command more h =
     rw few refl
 
 -- bytes that show a fault begin with no frame
-pub broken_begins_none : (bytes : List ℕ) → IsSome (first_fault bytes) → BeginsNoCommand bytes
-broken_begins_none bytes fault command more sendable e =
+pub broken_begins_none : (bytes : List ℕ) (place : ℕ) → first_fault bytes ≡ Some place → BeginsNoCommand bytes
+broken_begins_none bytes place fault command more sendable e =
     let none : first_fault bytes ≡ None = ap first_fault e ∙ first_fault-spelling command more sendable in
-    let no = rw none at fault in
+    let no : None ≡ Some place = sym none ∙ fault in
     cc
 
 -- bytes that are fewer than a header, or than their header says, begin with no frame

@@ -1,19 +1,19 @@
 -- What a reader of frames holds, and what it answers to a piece.
-use Rattle.std.specs.Prelude.{◌≡◌, ◌≤◌, ◌+◌, ℕ, Bool, true, false, List, [], ◌++◌, length, take, IsSome, None}
+use Rattle.std.specs.Prelude.{◌≡◌, ◌≤◌, ◌+◌, ℕ, List, [], ◌++◌, length, take, Option, None, Some}
 use Rattle.module_frames.specs.declared.frames.Fed.{Fed}
 use Rattle.module_frames.specs.declared.frames.Fed.TheVariants as fed
 use Rattle.module_frames.specs.CommandFrames.{CommandFrame, IsCommandFrame}
-use Rattle.module_frames.specs.Streams.{BeginsNoCommand, first_fault}
+use Rattle.module_frames.specs.Streams.{BeginsNoCommand, first_fault, fault_from}
 
 -- The bytes held, and where in the stream they begin: the frame of a command that stands, or the fragment of one.
--- Once a fault has come, none is held.
+-- Once a fault has come, its place in the stream is kept, and no byte is held.
 pub record Fragment : Type 0 where
   pub offset : ℕ
   pub bytes : List ℕ
-  pub broken : Bool
+  pub fault : Option ℕ
 
 abbrev pub new_fragment : Fragment
-new_fragment = record { offset = 0; bytes = []; broken = false }
+new_fragment = record { offset = 0; bytes = []; fault = None }
 
 -- a whole command stands
 abbrev pub Stands : Fragment → Type 0
@@ -24,9 +24,9 @@ pub record IsPartial (bytes : List ℕ) : Type 0 where
   pub sound : first_fault bytes ≡ None
   pub unfinished : BeginsNoCommand bytes
 
--- the bytes show a fault, and no command is whole
-pub record IsBroken (bytes : List ℕ) : Type 0 where
-  pub fault : IsSome (first_fault bytes)
+-- the bytes, which begin at this place in the stream, show their first fault at that one, and no command is whole
+pub record IsBrokenAt (start : ℕ) (bytes : List ℕ) (place : ℕ) : Type 0 where
+  pub fault : fault_from start bytes ≡ Some place
   pub unfinished : BeginsNoCommand bytes
 
 -- what is answered to a piece before any fault, and what is held then
@@ -36,14 +36,15 @@ Takes old piece fed.More new = (new ≡ record old { bytes = old.bytes ++ piece 
 -- so many were taken, and a command is whole
 Takes old piece (fed.Whole count) new =
     (count ≤ length piece) × (new ≡ record old { bytes = old.bytes ++ take count piece }) × Stands new
--- a fault shows, and none is held
-Takes old piece fed.BadFrame new = (new ≡ record old { bytes = []; broken = true }) × IsBroken (old.bytes ++ piece)
+-- a fault shows at this place in the stream, and none is held
+Takes old piece (fed.BadFrame place) new =
+    (new ≡ record old { bytes = []; fault = Some place }) × IsBrokenAt old.offset (old.bytes ++ piece) place
 
--- what is answered to a piece, and what is held then: after a fault the answer stays
+-- what is answered to a piece, and what is held then: after a fault its place is answered for good
 pub record Feeds (old : Fragment) (piece : List ℕ) (answer : Fed) (new : Fragment) : Type 0 where
-  pub before_fault : old.broken ≡ false → Takes old piece answer new
-  pub after_fault : old.broken ≡ true → (answer ≡ fed.BadFrame) × (new ≡ old)
+  pub before_fault : old.fault ≡ None → Takes old piece answer new
+  pub after_fault : (place : ℕ) → old.fault ≡ Some place → (answer ≡ fed.BadFrame place) × (new ≡ old)
 
--- nothing is held, and the next frame begins behind what was
+-- nothing is held, and the next frame begins behind what was; a fault that came stays
 abbrev pub cleared_fragment : Fragment → Fragment
-cleared_fragment old = record { offset = old.offset + length old.bytes; bytes = []; broken = old.broken }
+cleared_fragment old = record { offset = old.offset + length old.bytes; bytes = []; fault = old.fault }

@@ -1,6 +1,6 @@
 -- A stream of command frames: how bytes split into commands and a rest, and the first fault that a rest shows.
-use Rattle.std.specs.Prelude.{◌≡◌, ℕ, ◌==◌, ◌&&◌, nat_lt, not, Bool, false, List, ◌++◌, length, take, drop, slice_get, Option, Some, None, if◌then◌else◌}
-use Rattle.std.specs.Option.{option_map_or}
+use Rattle.std.specs.Prelude.{◌≡◌, ℕ, ◌+◌, ◌==◌, ◌&&◌, nat_lt, not, Bool, false, List, ◌++◌, length, take, drop, slice_get, Option, Some, None, if◌then◌else◌}
+use Rattle.std.specs.Option.{option_map, option_map_or}
 use Rattle.std.specs.List.{flat_map, AllByRecursion}
 use Rattle.std.specs.Int.{from_be_bytes, w32}
 use Rattle.module_frames.specs.CommandFrames.{CommandFrame, command_spelling, IsSendable}
@@ -38,3 +38,7 @@ first_fault rest =
     else if is_wrong_at rest 3 0x00 then Some 3
     else if is_too_long rest then Some 4
     else None
+
+-- the place in the stream of the first fault that a rest shows, where the rest begins at this place
+abbrev pub fault_from : ℕ → List ℕ → Option ℕ
+fault_from start rest = option_map (λ place. start + place) (first_fault rest)

@@ -1,5 +1,5 @@
 // Bytes in any pieces, and the commands that they spell.
-ghost use Rattle.std.specs.Prelude.{◌≡◌, ◌+◌, ◌-◌, ◌^◌, ◌≤◌, ◌<◌, ◌↔◌, ◌++◌, [], true, false, IfOk, IsTrue, IsSome, length, take, drop, min, is_some};
+ghost use Rattle.std.specs.Prelude.{◌≡◌, ◌+◌, ◌-◌, ◌^◌, ◌≤◌, ◌<◌, ◌↔◌, ◌++◌, [], true, false, IfOk, IfSome, IsTrue, length, take, drop, min, None};
 ghost use Rattle.std.specs.Int.{to_be_bytes, w32};
 ghost use Rattle.module_frames.specs.Streams.{first_fault, body_length, length_bytes, is_wrong_at, is_too_long};
 ghost use Rattle.module_frames.specs.CommandFrames.{IsCommandFrame};
@@ -18,8 +18,9 @@ pub enum Fed {
     More,
     /// So many bytes of the piece were taken, and one command stands.
     Whole(usize),
-    /// The bytes show a fault.
-    BadFrame,
+    /// The bytes show a fault at this place, its offset in the whole stream: that of the wrong byte, or of the first byte
+    /// of a length that is too large.
+    BadFrame(u64),
 }
 
 /// Makes commands of bytes that come in any pieces. Contracts see the bytes held and where in the stream they begin.
@@ -30,7 +31,7 @@ pub struct Frames {
     header: [u8; 8],
     count: usize,
     command: Command,
-    broken: bool,
+    fault: Option<u64>,
 }
 
 impl Model for Frames {
@@ -84,8 +85,9 @@ fn is_too_long(header: &[u8]) -> bool
 
 // The place of the first fault that the bytes of a header show.
 #[tactic(auto, unfolding(crate::specs::Streams::first_fault))]
-fn first_fault(header: &[u8]) -> Option<usize>
-    ensures { result ≡ first_fault header.now }
+fn first_fault(header: &[u8]) -> Option<u64>
+    ensures place { result ≡ first_fault header.now }
+    ensures front { IfSome result (λ place. place ≤ 4) }
 {
     if is_wrong_at(header, 0, 0xc5) {
         Some(0)
@@ -112,36 +114,37 @@ impl Frames {
             header: [0; 8],
             count: 0,
             command,
-            broken: false,
+            fault: None,
         })
     }
 
-    // Fills the header up, and says how many bytes it took, or that the bytes show a fault.
-    fn take_header(&mut self, piece: &[u8]) -> Option<usize>
-        requires sound { self.old.broken ≡ false }
+    // Fills the header up, and says how many bytes it took, or at which place in the stream the bytes show a fault.
+    fn take_header(&mut self, piece: &[u8]) -> Result<usize, u64>
+        requires sound { self.old.fault ≡ None }
         requires short { self.old.offset + length self.old.bytes + length piece.now ≤ 2 ^ 63 }
         ensures { TakesHeader self.old piece.now result self.new }
     {
         if self.count == 8 {
-            return Some(0);
+            return Ok(0);
         }
         let taken = fill(&mut self.header, self.count, piece);
         self.count += taken;
-        if first_fault(&self.header[..self.count]).is_some() {
+        if let Some(within) = first_fault(&self.header[..self.count]) {
+            let place = self.offset + within;
             self.header = [0; 8];
             self.count = 0;
-            self.broken = true;
-            return None;
+            self.fault = Some(place);
+            return Err(place);
         }
         if self.count == 8 {
             self.command.start(self.header[2]);
         }
-        Some(taken)
+        Ok(taken)
     }
 
     // Takes bytes of the body, and says how many.
     fn take_body(&mut self, piece: &[u8]) -> usize
-        requires sound { self.old.broken ≡ false }
+        requires sound { self.old.fault ≡ None }
         requires headed { 8 ≤ length self.old.bytes }
         requires short { self.old.offset + length self.old.bytes + length piece.now ≤ 2 ^ 63 }
         ensures taken { result ≡ min (8 + body_length self.old.bytes - length self.old.bytes) (length piece.now) }
@@ -155,7 +158,7 @@ impl Frames {
 
     // Whether a whole command stands; where none does, one may go on so.
     fn is_whole(&self) -> bool
-        requires { self.now.broken ≡ false }
+        requires { self.now.fault ≡ None }
         ensures whole { result ≡ true → Stands self.now }
         ensures partial { result ≡ false → IsPartial self.now.bytes }
         ensures short { result ≡ false → 8 ≤ length self.now.bytes → length self.now.bytes < 8 + body_length self.now.bytes }
@@ -164,18 +167,19 @@ impl Frames {
     }
 
     /// Takes bytes from the front of the next piece of the stream, up to the end of a command.
-    /// Once it has answered `BadFrame` it holds nothing, and answers so for good.
+    /// Once it has answered `BadFrame` it holds nothing, and answers the same place for good.
     /// Where a command stands it takes nothing, and answers `Whole(0)`.
     /// All pieces of a stream together have at most 2^63 bytes.
     pub fn feed(&mut self, piece: &[u8]) -> Fed
         requires { self.old.offset + length self.old.bytes + length piece.now ≤ 2 ^ 63 }
         ensures { Feeds self.old piece.now result self.new }
     {
-        if self.broken {
-            return Fed::BadFrame;
+        if let Some(place) = self.fault {
+            return Fed::BadFrame(place);
         }
-        let Some(head) = self.take_header(piece) else {
-            return Fed::BadFrame;
+        let head = match self.take_header(piece) {
+            Ok(head) => head,
+            Err(place) => return Fed::BadFrame(place),
         };
         if self.count < 8 {
             return Fed::More;
@@ -196,7 +200,7 @@ impl Frames {
         &self.command
     }
 
-    /// Forgets what is held, a fragment or the command that stands. No byte of it stays.
+    /// Forgets what is held, a fragment or the command that stands. No byte of it stays; the place of a fault does.
     pub fn clear(&mut self)
         ensures cleared { self.new ≡ cleared_fragment self.old }
         ensures partial { IsPartial self.new.bytes }
@@ -209,8 +213,8 @@ impl Frames {
 
     /// Whether the stream may end here: nothing is held, and no fault came.
     pub fn at_boundary(&self) -> bool
-        ensures { IsTrue result ↔ ((self.now.bytes ≡ []) × (self.now.broken ≡ false)) }
+        ensures { IsTrue result ↔ ((self.now.bytes ≡ []) × (self.now.fault ≡ None)) }
     {
-        self.count == 0 && !self.broken
+        self.count == 0 && self.fault.is_none()
     }
 }

@@ -1,14 +1,14 @@
 -- How serving a stream ends.
 use Rattle.std.proofs.Common.{◌≡◌, ◌++◌, ◌<◌, ℕ, List, [], ◌∷◌, append-nil, sym, refl, ◌∙◌, ap, subst, length, Option, Some, None}
-use Rattle.std.specs.Prelude.{IsSome}
+use Rattle.std.specs.Option.{option_map_or}
 use Rattle.outside.specs.Contents.{Takes, IsSpent}
-use Rattle.module_frames.specs.Streams.{BeginsNoCommand, first_fault, body_length}
+use Rattle.module_frames.specs.Streams.{BeginsNoCommand, first_fault, fault_from, body_length}
 use Rattle.state_model.specs.Kept.{Kept}
 use Rattle.state_model.specs.MachineState.{MachineState}
 use Rattle.state_model.specs.Represents.{Represents}
 use Rattle.module_top.specs.declared.serving.Ended.{Ended}
 use Rattle.module_top.specs.declared.serving.Ended.TheVariants as ended
-use Rattle.module_top.specs.Run.{ending_of}
+use Rattle.module_top.specs.Run.{fault_or, ending_of}
 use Rattle.module_top.specs.Desk.{Desk, Served}
 use Rattle.module_top.specs.Serving.{Streams, Answered, Serves, IsAllOf, stream_max}
 
@@ -33,16 +33,20 @@ all_of (Some all) mid taken takes spent =
     takes.1 ∙ ap (λ xs. taken ++ xs) none ∙ append-nil taken
 
 -- a source that ended
-pub ends_at : (rest : List ℕ) (how : Ended) (taken : List ℕ) (s : MachineState) (m : Kept) (before after : Streams) → how ≡ ending_of rest → first_fault rest ≡ None
+pub ends_at : (start : ℕ) (rest : List ℕ) (how : Ended) (taken : List ℕ) (s : MachineState) (m : Kept) (before after : Streams) → how ≡ ending_of start rest → first_fault rest ≡ None
     → Takes before.left taken after.left → Answered s taken rest m before after → length taken < stream_max → IsAllOf taken before.left → Serves how s m before after
-ends_at [] how taken s m before after is sound takes answered less spent =
+ends_at start [] how taken s m before after is sound takes answered less spent =
     subst (λ h. Serves h s m before after) (sym is) (taken, [], takes, answered, (refl, less, spent))
-ends_at (byte ∷ rest) how taken s m before after is sound takes answered less spent =
-    let truncated : ending_of (byte ∷ rest) ≡ ended.Truncated = rw sound refl in
-    subst (λ h. Serves h s m before after) (sym (is ∙ truncated)) (taken, byte ∷ rest, takes, answered, (truncated, less, spent))
+ends_at start (byte ∷ rest) how taken s m before after is sound takes answered less spent =
+    let truncated : (place : ℕ) → ending_of place (byte ∷ rest) ≡ ended.Truncated = λ place. rw sound refl in
+    subst (λ h. Serves h s m before after) (sym (is ∙ truncated start)) (taken, byte ∷ rest, takes, answered, (truncated _, less, spent))
 
--- a rest that shows a fault
-pub broken_ending : (rest : List ℕ) → IsSome (first_fault rest) → ending_of rest ≡ ended.BadFrame
+-- a rest that shows a fault, whatever the end without it
+pub broken_other : (start : ℕ) (rest : List ℕ) (place : ℕ) (other : Ended) → fault_from start rest ≡ Some place → fault_or start rest other ≡ ended.BadFrame place
+broken_other start rest place other fault = ap (λ found. option_map_or (λ p. ended.BadFrame p) found other) fault
+
+-- a stream that leaves such a rest ends so
+pub broken_ending : (start : ℕ) (rest : List ℕ) (place : ℕ) → fault_from start rest ≡ Some place → ending_of start rest ≡ ended.BadFrame place
 unfolding first_fault body_length
-broken_ending [] fault = cc
-broken_ending (byte ∷ rest) fault = rw fault refl
+broken_ending start [] place fault = cc
+broken_ending start (byte ∷ rest) place fault = broken_other start (byte ∷ rest) place ended.Truncated fault

@@ -1,12 +1,10 @@
 -- The definition of the program's output leaves nothing open.
 use Rattle.std.proofs.Common.{◌≡◌, ◌≢◌, ◌⊎◌, inl, inr, ℕ, List, [], ◌∷◌, length, take, get_or, drop, sym, refl, ◌∙◌, ap}
-use Rattle.std.specs.Prelude.{is_some, if◌then◌else◌}
 use Rattle.std.proofs.lemmas.Bool.{cases_eq, cases_lt}
-use Rattle.module_frames.specs.Streams.{first_fault}
 use Rattle.module_frames.proofs.Splitting.{one_way}
 use Rattle.state_model.specs.MachineState.{MachineState, initial_state}
 use Rattle.module_top.specs.declared.serving.Ended.TheVariants as ended
-use Rattle.module_top.specs.Run.{Ran, Runs, run_commands, ending_of}
+use Rattle.module_top.specs.Run.{Ran, Runs, run_commands, rest_start, fault_or, ending_of}
 use Rattle.module_top.specs.Serving.{stream_max}
 use Rattle.module_top.specs.Program.{serve_words, exit_status, HasOneOutput}
 
@@ -44,10 +42,10 @@ one_output words bytes status status' out out' one other =
         | inl short ↦ (let a = one.serve is short in
             let b = other.serve is short in
             let same = one_run initial_state a.0 b.0 bytes out a.1 out' b.1 a.2 b.2 in
-            (a.3 ∙ ap (λ rest. exit_status (ending_of rest)) same.1 ∙ sym b.3, same.0))
+            (a.3 ∙ ap (λ rest. exit_status (ending_of (rest_start bytes rest) rest)) same.1 ∙ sym b.3, same.0))
         | inr long ↦ (let a = one.too_long is long in
             let b = other.too_long is long in
             let same = one_run initial_state a.0 b.0 (take stream_max bytes) out a.1 out' b.1 a.2 b.2 in
-            (a.3 ∙ ap (λ rest. if is_some (first_fault rest) then exit_status ended.BadFrame else exit_status ended.Limit) same.1 ∙ sym b.3, same.0))
+            (a.3 ∙ ap (λ rest. exit_status (fault_or (rest_start (take stream_max bytes) rest) rest ended.Limit)) same.1 ∙ sym b.3, same.0))
       ]
     ]

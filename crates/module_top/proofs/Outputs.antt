@@ -1,24 +1,24 @@
 -- From what serving leaves to the program's output.
-use Rattle.std.proofs.Common.{◌≡◌, ◌≢◌, ◌++◌, ◌<◌, ◌≤◌, ◌+◌, ◌-◌, ℕ, Bool, true, false, List, [], ◌∷◌, sym, refl, ◌∙◌, ap, subst, length, length-append, arith, take, drop, Some, if◌then◌else◌}
-use Rattle.std.specs.Prelude.{IsSome, is_some}
+use Rattle.std.proofs.Common.{◌≡◌, ◌≢◌, ◌++◌, ◌<◌, ◌≤◌, ◌+◌, ◌-◌, ℕ, List, [], ◌∷◌, Option, None, Some, sym, refl, ◌∙◌, ap, subst, length, length-append, arith, take, drop}
+use Rattle.std.specs.Option.{option_map_or}
 use Rattle.std.proofs.lemmas.List.{append_assoc, take_at, drop_at}
 use Rattle.std.proofs.Math.Seq.{take-add}
-use Rattle.module_frames.specs.Streams.{first_fault}
-use Rattle.module_frames.proofs.Headers.{fault_stays}
+use Rattle.module_frames.specs.Streams.{fault_from}
+use Rattle.module_frames.proofs.Headers.{fault_stays, fault_from_stays, shown_fault}
 use Rattle.module_frames.proofs.Spellings.{broken_begins_none}
 use Rattle.state_model.specs.Kept.{Kept}
 use Rattle.state_model.specs.MachineState.{MachineState, initial_state}
 use Rattle.module_top.specs.declared.serving.Ended.{Ended}
 use Rattle.module_top.specs.declared.serving.Ended.TheVariants as ended
-use Rattle.module_top.specs.Run.{Runs, ending_of}
+use Rattle.module_top.specs.Run.{Runs, rest_start, fault_or, ending_of}
 use Rattle.module_top.specs.Serving.{Streams, Answered, Serves, stream_max}
 use Rattle.module_top.specs.Program.{serve_words, exit_status, IsProgramOutput}
-use Rattle.module_top.proofs.Ending.{broken_ending}
+use Rattle.module_top.proofs.Ending.{broken_other, broken_ending}
 
 -- serving ends with no status of another cause
 pub never_usage : (how : Ended) → exit_status how ≢ 2
 never_usage ended.End = λ h. omega arith
-never_usage ended.BadFrame = λ h. omega arith
+never_usage (ended.BadFrame place) = λ h. omega arith
 never_usage ended.Truncated = λ h. omega arith
 never_usage ended.ReadFault = λ h. omega arith
 never_usage ended.WriteFault = λ h. omega arith
@@ -26,7 +26,7 @@ never_usage ended.Limit = λ h. omega arith
 
 pub never_memory : (how : Ended) → exit_status how ≢ 7
 never_memory ended.End = λ h. omega arith
-never_memory ended.BadFrame = λ h. omega arith
+never_memory (ended.BadFrame place) = λ h. omega arith
 never_memory ended.Truncated = λ h. omega arith
 never_memory ended.ReadFault = λ h. omega arith
 never_memory ended.WriteFault = λ h. omega arith
@@ -34,7 +34,7 @@ never_memory ended.Limit = λ h. omega arith
 
 pub read_fault_of : (how : Ended) → exit_status how ≡ 5 → how ≡ ended.ReadFault
 read_fault_of ended.End h = absurd (omega arith)
-read_fault_of ended.BadFrame h = absurd (omega arith)
+read_fault_of (ended.BadFrame place) h = absurd (omega arith)
 read_fault_of ended.Truncated h = absurd (omega arith)
 read_fault_of ended.ReadFault h = refl
 read_fault_of ended.WriteFault h = absurd (omega arith)
@@ -42,32 +42,35 @@ read_fault_of ended.Limit h = absurd (omega arith)
 
 pub write_fault_of : (how : Ended) → exit_status how ≡ 6 → how ≡ ended.WriteFault
 write_fault_of ended.End h = absurd (omega arith)
-write_fault_of ended.BadFrame h = absurd (omega arith)
+write_fault_of (ended.BadFrame place) h = absurd (omega arith)
 write_fault_of ended.Truncated h = absurd (omega arith)
 write_fault_of ended.ReadFault h = absurd (omega arith)
 write_fault_of ended.WriteFault h = refl
 write_fault_of ended.Limit h = absurd (omega arith)
 
-chosen_fault : (shows : Bool) → (if shows then ended.BadFrame else ended.Truncated) ≡ ended.BadFrame → shows ≡ true
-chosen_fault true h = refl
-chosen_fault false h = cc
+chosen_fault : (found : Option ℕ) (place : ℕ) → option_map_or (λ p. ended.BadFrame p) found ended.Truncated ≡ ended.BadFrame place → found ≡ Some place
+chosen_fault None place h = cc
+chosen_fault (Some p) place h = cc
 
--- a stream that ends as a bad frame shows a fault
-ending_fault : (rest : List ℕ) → ending_of rest ≡ ended.BadFrame → IsSome (first_fault rest)
-ending_fault [] h = cc
-ending_fault (byte ∷ rest) h = chosen_fault (is_some (first_fault (byte ∷ rest))) h
+-- a stream that ends as a bad frame shows its fault at that place
+ending_fault : (start : ℕ) (rest : List ℕ) (place : ℕ) → ending_of start rest ≡ ended.BadFrame place → fault_from start rest ≡ Some place
+ending_fault start [] place h = cc
+ending_fault start (byte ∷ rest) place h = chosen_fault (fault_from start (byte ∷ rest)) place h
 
 -- once a rest shows a fault the run is over, whatever follows
-run_stays : {s t : MachineState} {bytes out rest : List ℕ} (more : List ℕ) → IsSome (first_fault rest) → Runs s bytes t out rest → Runs s (bytes ++ more) t out (rest ++ more)
-run_stays {s} {t} {bytes} {out} {rest} more fault runs = record {
-  commands = runs.commands;
-  splits = record {
-    spelled = ap (λ xs. xs ++ more) runs.splits.spelled ∙ append_assoc _ rest more;
-    sendable = runs.splits.sendable;
-    unfinished = broken_begins_none (rest ++ more) (fault_stays rest more fault);
-  };
-  ran = runs.ran;
-}
+run_stays : {s t : MachineState} {bytes out rest : List ℕ} (more : List ℕ) (start place : ℕ) → fault_from start rest ≡ Some place → Runs s bytes t out rest
+    → Runs s (bytes ++ more) t out (rest ++ more)
+run_stays {s} {t} {bytes} {out} {rest} more start place fault runs =
+    let shown = shown_fault start rest place fault in
+    record {
+      commands = runs.commands;
+      splits = record {
+        spelled = ap (λ xs. xs ++ more) runs.splits.spelled ∙ append_assoc _ rest more;
+        sendable = runs.splits.sendable;
+        unfinished = broken_begins_none (rest ++ more) shown.0 (fault_stays rest more shown.0 shown.1);
+      };
+      ran = runs.ran;
+    }
 
 -- the first bytes of two parts, past the first part
 take_past : (n : ℕ) (first more : List ℕ) → length first ≤ n → take n (first ++ more) ≡ first ++ take (n - length first) more
@@ -78,18 +81,19 @@ take_past n first more h =
     ∙ ap (λ xs. xs ++ take (n - length first) (drop (length first) (first ++ more))) (take_at first more (length first) refl)
     ∙ ap (λ xs. first ++ take (n - length first) xs) (drop_at first more (length first) refl)
 
-fault_status : (rest : List ℕ) → IsSome (first_fault rest) → 3 ≡ (if is_some (first_fault rest) then exit_status ended.BadFrame else exit_status ended.Limit)
-fault_status rest fault = rw fault refl
+-- a rest begins where it did, however bytes and rest go on
+start_stays : (bytes rest more all : List ℕ) → all ≡ bytes ++ more → rest_start all (rest ++ more) ≡ rest_start bytes rest
+start_stays bytes rest more all e = omega (arith, ap length e, length-append bytes more, length-append rest more)
 
 -- a source that was read to its end
 output_at_end : (words : List (List ℕ)) (how : Ended) (m : Kept) (bytes before taken rest : List ℕ) (after : Streams) → words ≡ serve_words
-    → Answered initial_state taken rest m (record { left = Some bytes; gained = Some before }) after → ending_of rest ≡ how → length taken < stream_max → bytes ≡ taken
+    → Answered initial_state taken rest m (record { left = Some bytes; gained = Some before }) after → ending_of (rest_start taken rest) rest ≡ how → length taken < stream_max → bytes ≡ taken
     → (out : List ℕ) × IsProgramOutput words bytes (exit_status how) out × (after.gained ≡ Some (before ++ out))
 output_at_end words how m bytes before taken rest after is answered e less all = (
   answered.out,
   record {
     usage = λ other. absurd (other is);
-    serve = λ _ _. (answered.machine, rest, subst (λ xs. Runs initial_state xs answered.machine answered.out rest) (sym all) answered.runs, ap exit_status (sym e));
+    serve = λ _ _. (answered.machine, rest, subst (λ xs. Runs initial_state xs answered.machine answered.out rest) (sym all) answered.runs, ap exit_status (sym e ∙ ap (λ xs. ending_of (rest_start xs rest) rest) (sym all)));
     too_long = λ _ long. absurd (omega (arith, ap length all, less, long));
   },
   answered.gained,
@@ -103,24 +107,26 @@ output_of words ended.End m bytes before after is (taken, rest, takes, answered,
     output_at_end words ended.End m bytes before taken rest after is answered ends.0 ends.1 ends.2
 output_of words ended.Truncated m bytes before after is (taken, rest, takes, answered, ends) no_read no_write =
     output_at_end words ended.Truncated m bytes before taken rest after is answered ends.0 ends.1 ends.2
-output_of words ended.BadFrame m bytes before after is (taken, rest, takes, answered, ends) no_read no_write =
-    let fault = ending_fault rest ends.0 in
+output_of words (ended.BadFrame place) m bytes before after is (taken, rest, takes, answered, ends) no_read no_write =
+    let start = rest_start taken rest in
+    let fault : fault_from start rest ≡ Some place = ending_fault start rest place ends.0 in
     let more = takes.0 in
-    let cut = take (stream_max - length taken) more in (
+    let cut = take (stream_max - length taken) more in
+    let first : take stream_max bytes ≡ taken ++ cut = ap (λ xs. take stream_max xs) takes.1 ∙ take_past stream_max taken more ends.1 in (
       answered.out,
       record {
         usage = λ other. absurd (other is);
         serve = λ _ _. (
           answered.machine,
           rest ++ more,
-          subst (λ xs. Runs initial_state xs answered.machine answered.out (rest ++ more)) (sym takes.1) (run_stays more fault answered.runs),
-          ap exit_status (sym (broken_ending (rest ++ more) (fault_stays rest more fault))),
+          subst (λ xs. Runs initial_state xs answered.machine answered.out (rest ++ more)) (sym takes.1) (run_stays more start place fault answered.runs),
+          ap exit_status (sym (ap (λ n. ending_of n (rest ++ more)) (start_stays taken rest more bytes takes.1) ∙ broken_ending start (rest ++ more) place (fault_from_stays start rest more place fault))),
         );
         too_long = λ _ _. (
           answered.machine,
           rest ++ cut,
-          subst (λ xs. Runs initial_state xs answered.machine answered.out (rest ++ cut)) (sym (ap (λ xs. take stream_max xs) takes.1 ∙ take_past stream_max taken more ends.1)) (run_stays cut fault answered.runs),
-          fault_status (rest ++ cut) (fault_stays rest cut fault),
+          subst (λ xs. Runs initial_state xs answered.machine answered.out (rest ++ cut)) (sym first) (run_stays cut start place fault answered.runs),
+          ap exit_status (sym (ap (λ n. fault_or n (rest ++ cut) ended.Limit) (start_stays taken rest cut (take stream_max bytes) first) ∙ broken_other start (rest ++ cut) place ended.Limit (fault_from_stays start rest cut place fault))),
         );
       },
       answered.gained,

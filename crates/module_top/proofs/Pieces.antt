@@ -1,5 +1,5 @@
 -- What a piece does, by what the reader of frames answers to it.
-use Rattle.std.proofs.Common.{◌≡◌, ◌++◌, ◌<◌, ◌≤◌, ◌+◌, ℕ, false, List, [], append_assoc, refl, ◌∙◌, ap, subst, length, length-append, arith, take, drop}
+use Rattle.std.proofs.Common.{◌≡◌, ◌++◌, ◌<◌, ◌≤◌, ◌+◌, ℕ, List, [], None, append_assoc, refl, ◌∙◌, ap, subst, length, length-append, arith, take, drop}
 use Rattle.std.proofs.lemmas.List.{take-append-drop, length-drop}
 use Rattle.std.proofs.Math.Seq.{take-add}
 use Rattle.outside.specs.Contents.{Gains}
@@ -18,7 +18,7 @@ pub record Underway (start : Desk) (old : Fragment) (piece : List ℕ) (done : �
   pub within : done ≤ length piece
   pub served : Served start old.bytes (take done piece) mid.bytes desk
   pub partial : IsPartial mid.bytes
-  pub sound : mid.broken ≡ false
+  pub sound : mid.fault ≡ None
   pub place : mid.offset + length mid.bytes ≡ old.offset + length old.bytes + done
 
 -- the rest of the piece is held
@@ -30,17 +30,19 @@ all_served {start} {desk} {old} {mid} {new} {piece} {done} way took =
     record {
       served = subst (λ p. Served start old.bytes p new.bytes desk) (take-append-drop done piece) (served_both way.served (served_held desk mid.bytes (drop done piece) new.bytes bytes));
       partial = took.1;
-      sound = ap (λ (f : Fragment). f.broken) took.0 ∙ way.sound;
+      sound = ap (λ (f : Fragment). f.fault) took.0 ∙ way.sound;
       place = omega (arith, offset, ap length bytes, length-append mid.bytes (drop done piece), length-drop done piece, way.place, way.within);
     }
 
 -- the rest of the piece shows a fault
-pub fault_served : {start desk : Desk} {old mid new : Fragment} {piece : List ℕ} {done : ℕ} → Underway start old piece done mid desk
-    → Takes mid (drop done piece) fed.BadFrame new → ServedToFault start old.bytes piece desk
-fault_served {start} {desk} {old} {mid} {new} {piece} {done} way took = record {
+pub fault_served : {start desk : Desk} {old mid new : Fragment} {piece : List ℕ} {done place : ℕ} → Underway start old piece done mid desk
+    → Takes mid (drop done piece) (fed.BadFrame place) new → ServedToFault start old piece place desk
+fault_served {start} {desk} {old} {mid} {new} {piece} {done} {place} way took = record {
   rest = mid.bytes ++ drop done piece;
+  start = mid.offset;
   served = subst (λ p. Served start old.bytes p (mid.bytes ++ drop done piece) desk) (take-append-drop done piece)
       (served_both way.served (served_held desk mid.bytes (drop done piece) (mid.bytes ++ drop done piece) refl));
+  begins = omega (arith, length-append mid.bytes (drop done piece), length-drop done piece, way.place, way.within);
   fault = took.1;
 }
 

@@ -1,9 +1,9 @@
 -- Serving a piece of a stream: a relation that composes over pieces.
-use Rattle.std.specs.Prelude.{◌≡◌, ◌<◌, ◌+◌, ◌++◌, ℕ, false, List, length, take, Option}
+use Rattle.std.specs.Prelude.{◌≡◌, ◌<◌, ◌+◌, ◌++◌, ℕ, List, length, take, Option, None}
 use Rattle.std.specs.List.{flat_map, AllByRecursion}
 use Rattle.outside.specs.Contents.{Gains}
 use Rattle.module_frames.specs.CommandFrames.{CommandFrame, command_spelling, IsSendable}
-use Rattle.module_frames.specs.Fragments.{Fragment, IsPartial, IsBroken}
+use Rattle.module_frames.specs.Fragments.{Fragment, IsPartial, IsBrokenAt}
 use Rattle.state_model.specs.Kept.{Kept}
 use Rattle.state_model.specs.MachineState.{MachineState}
 use Rattle.state_model.specs.Represents.{Represents}
@@ -56,11 +56,13 @@ pub record CutShort (before : Desk) (held piece : List ℕ) (after : Desk) : Typ
 pub record ServedAll (before : Desk) (old : Fragment) (piece : List ℕ) (new : Fragment) (after : Desk) : Type 0 where
   pub served : Served before old.bytes piece new.bytes after
   pub partial : IsPartial new.bytes
-  pub sound : new.broken ≡ false
+  pub sound : new.fault ≡ None
   pub place : new.offset + length new.bytes ≡ old.offset + length old.bytes + length piece
 
--- a piece was served up to a fault, which the rest shows
-pub record ServedToFault (before : Desk) (held piece : List ℕ) (after : Desk) : Type 0 where
+-- a piece was served up to a fault, which the rest shows at this place in the stream
+pub record ServedToFault (before : Desk) (old : Fragment) (piece : List ℕ) (place : ℕ) (after : Desk) : Type 0 where
   pub rest : List ℕ
-  pub served : Served before held piece rest after
-  pub fault : IsBroken rest
+  pub start : ℕ
+  pub served : Served before old.bytes piece rest after
+  pub begins : start + length rest ≡ old.offset + length old.bytes + length piece
+  pub fault : IsBrokenAt start rest place

@@ -1,10 +1,9 @@
 -- What the program answers to its words and its input, and what it writes.
-use Rattle.std.specs.Prelude.{◌≡◌, ◌≢◌, ◌≤◌, ◌<◌, ℕ, List, [], ◌∷◌, length, take, codes, is_some, if◌then◌else◌}
-use Rattle.module_frames.specs.Streams.{first_fault}
+use Rattle.std.specs.Prelude.{◌≡◌, ◌≢◌, ◌≤◌, ◌<◌, ℕ, List, [], ◌∷◌, length, take, codes}
 use Rattle.state_model.specs.MachineState.{MachineState, initial_state}
 use Rattle.module_top.specs.declared.serving.Ended.{Ended}
 use Rattle.module_top.specs.declared.serving.Ended.TheVariants as ended
-use Rattle.module_top.specs.Run.{Runs, ending_of}
+use Rattle.module_top.specs.Run.{Runs, rest_start, fault_or, ending_of}
 use Rattle.module_top.specs.Serving.{stream_max}
 
 -- the one form of the words
@@ -14,7 +13,7 @@ serve_words = codes "serve" ∷ []
 -- the exit status for how serving ended
 abbrev pub exit_status : Ended → ℕ
 exit_status ended.End = 0
-exit_status ended.BadFrame = 3
+exit_status (ended.BadFrame place) = 3
 exit_status ended.Truncated = 4
 exit_status ended.ReadFault = 5
 exit_status ended.WriteFault = 6
@@ -26,11 +25,11 @@ pub record IsProgramOutput (words : List (List ℕ)) (bytes : List ℕ) (status 
   pub usage : words ≢ serve_words → (status ≡ 2) × (out ≡ [])
   -- the run over the input, from a module that isn't powered
   pub serve : words ≡ serve_words → length bytes < stream_max →
-      (t : MachineState) × (rest : List ℕ) × Runs initial_state bytes t out rest × (status ≡ exit_status (ending_of rest))
+      (t : MachineState) × (rest : List ℕ) × Runs initial_state bytes t out rest × (status ≡ exit_status (ending_of (rest_start bytes rest) rest))
   -- of a stream that is too long the first 2^40 bytes are taken
   pub too_long : words ≡ serve_words → stream_max ≤ length bytes →
       (t : MachineState) × (rest : List ℕ) × Runs initial_state (take stream_max bytes) t out rest
-      × (status ≡ (if is_some (first_fault rest) then exit_status ended.BadFrame else exit_status ended.Limit))
+      × (status ≡ exit_status (fault_or (rest_start (take stream_max bytes) rest) rest ended.Limit))
 
 -- for words and input there is one status and one output
 abbrev pub HasOneOutput : Type 0

@@ -1,8 +1,9 @@
 -- A run of the machine over the bytes of a stream.
-use Rattle.std.specs.Prelude.{◌≡◌, ◌++◌, ℕ, List, [], ◌∷◌, is_some, if◌then◌else◌}
+use Rattle.std.specs.Prelude.{◌≡◌, ◌-◌, ◌++◌, ℕ, List, [], ◌∷◌, length}
+use Rattle.std.specs.Option.{option_map_or}
 use Rattle.module_frames.specs.CommandFrames.{CommandFrame}
 use Rattle.module_frames.specs.ReplyFrames.{reply_spelling}
-use Rattle.module_frames.specs.Streams.{Splits, first_fault}
+use Rattle.module_frames.specs.Streams.{Splits, fault_from}
 use Rattle.state_model.specs.MachineState.{MachineState}
 use Rattle.state_model.specs.Step.{step, reply_to}
 use Rattle.module_top.specs.declared.serving.Ended.{Ended}
@@ -32,7 +33,15 @@ pub record Runs (s : MachineState) (bytes : List ℕ) (t : MachineState) (out re
   pub splits : Splits bytes commands rest
   pub ran : run_commands s commands ≡ record { machine = t; out = out }
 
--- how a stream ends that leaves this rest
-abbrev pub ending_of : List ℕ → Ended
-ending_of [] = ended.End
-ending_of (byte ∷ rest) = if is_some (first_fault (byte ∷ rest)) then ended.BadFrame else ended.Truncated
+-- the place in a stream of these bytes at which the rest begins that they leave
+abbrev pub rest_start : List ℕ → List ℕ → ℕ
+rest_start bytes rest = length bytes - length rest
+
+-- a bad frame at the place of the first fault that a rest shows, which begins at this place; without a fault the other end
+abbrev pub fault_or : ℕ → List ℕ → Ended → Ended
+fault_or start rest other = option_map_or (λ place. ended.BadFrame place) (fault_from start rest) other
+
+-- how a stream ends that leaves this rest, which begins at this place
+abbrev pub ending_of : ℕ → List ℕ → Ended
+ending_of start [] = ended.End
+ending_of start (byte ∷ rest) = fault_or start (byte ∷ rest) ended.Truncated

@@ -7,7 +7,7 @@ use Rattle.state_model.specs.MachineState.{MachineState}
 use Rattle.state_model.specs.Represents.{Represents}
 use Rattle.module_top.specs.declared.serving.Ended.{Ended}
 use Rattle.module_top.specs.declared.serving.Ended.TheVariants as ended
-use Rattle.module_top.specs.Run.{Runs, ending_of}
+use Rattle.module_top.specs.Run.{Runs, rest_start, ending_of}
 use Rattle.module_top.specs.Desk.{Broke}
 
 -- the most bytes that one call takes
@@ -34,11 +34,11 @@ IsAllOf taken content = IfSome content (λ all. all ≡ taken)
 -- why it ended so, with this content at the beginning
 abbrev pub EndsBy : Ended → List ℕ → List ℕ → Option (List ℕ) → Type 0
 -- the source ended, at a frame's boundary
-EndsBy ended.End taken rest content = (ending_of rest ≡ ended.End) × (length taken < stream_max) × IsAllOf taken content
--- the bytes taken show a fault
-EndsBy ended.BadFrame taken rest content = (ending_of rest ≡ ended.BadFrame) × (length taken ≤ stream_max)
+EndsBy ended.End taken rest content = (ending_of (rest_start taken rest) rest ≡ ended.End) × (length taken < stream_max) × IsAllOf taken content
+-- the bytes taken show their first fault at this place
+EndsBy (ended.BadFrame place) taken rest content = (ending_of (rest_start taken rest) rest ≡ ended.BadFrame place) × (length taken ≤ stream_max)
 -- the source ended inside a frame
-EndsBy ended.Truncated taken rest content = (ending_of rest ≡ ended.Truncated) × (length taken < stream_max) × IsAllOf taken content
+EndsBy ended.Truncated taken rest content = (ending_of (rest_start taken rest) rest ≡ ended.Truncated) × (length taken < stream_max) × IsAllOf taken content
 -- as many bytes were taken as may be, and they show no fault
 EndsBy ended.Limit taken rest content = (length taken ≡ stream_max) × (first_fault rest ≡ None)
 EndsBy ended.ReadFault taken rest content = length taken < stream_max

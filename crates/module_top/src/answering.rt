@@ -1,5 +1,5 @@
 // Pieces of a stream, and the replies to the commands that they end.
-ghost use Rattle.std.specs.Prelude.{◌≡◌, ◌≢◌, ◌≤◌, ◌+◌, ◌^◌, false, OnOk, OnErr, length};
+ghost use Rattle.std.specs.Prelude.{◌≡◌, ◌≢◌, ◌≤◌, ◌+◌, ◌^◌, ℕ, None, OnOk, OnErr, length};
 ghost use Rattle.outside.specs.Contents.{Gains};
 ghost use Rattle.outside.specs.Faults.{Rose};
 ghost use Rattle.module_frames.specs.Fragments.{IsPartial};
@@ -68,8 +68,8 @@ pub fn answer<K: Sink>(
 pub enum Served {
     /// All of it was served.
     All,
-    /// The bytes show a fault; the commands before it were answered.
-    BadFrame,
+    /// The bytes show a fault at this place in the stream; the commands before it were answered.
+    BadFrame(u64),
     /// A write failed.
     WriteFault,
 }
@@ -82,13 +82,13 @@ pub fn serve_piece<K: Sink>(
     reply: &mut Reply,
     piece: &[u8],
 ) -> Served
-    requires sound { frames.old.broken ≡ false }
+    requires sound { frames.old.fault ≡ None }
     requires partial { IsPartial frames.old.bytes }
     requires short { frames.old.offset + length frames.old.bytes + length piece.now ≤ 2 ^ 63 }
     ensures all { result ≡ Served.All → ServedAll (record { kept = «module».old; gained = K.gained replies.old })
         frames.old piece.now frames.new (record { kept = «module».new; gained = K.gained replies.new }) }
-    ensures fault { result ≡ Served.BadFrame → ServedToFault (record { kept = «module».old; gained = K.gained replies.old })
-        frames.old.bytes piece.now (record { kept = «module».new; gained = K.gained replies.new }) }
+    ensures fault { (place : ℕ) → result ≡ Served.BadFrame place → ServedToFault (record { kept = «module».old; gained = K.gained replies.old })
+        frames.old piece.now place (record { kept = «module».new; gained = K.gained replies.new }) }
     ensures write_fault { result ≡ Served.WriteFault → CutShort (record { kept = «module».old; gained = K.gained replies.old })
         frames.old.bytes piece.now (record { kept = «module».new; gained = K.gained replies.new }) }
     ensures rose { result ≡ Served.WriteFault → Rose (K.faults replies.old) (K.faults replies.new) }
@@ -98,7 +98,7 @@ pub fn serve_piece<K: Sink>(
     while done < piece.len() {
         match frames.feed(&piece[done..]) {
             Fed::More => return Served::All,
-            Fed::BadFrame => return Served::BadFrame,
+            Fed::BadFrame(place) => return Served::BadFrame(place),
             Fed::Whole(count) => {
                 match answer(module, frames.command(), reply, replies) {
                     Err(_) => return Served::WriteFault,

@@ -66,7 +66,7 @@ fn exit_status(ended: Ended) -> u8
 {
     match ended {
         Ended::End => 0,
-        Ended::BadFrame => 3,
+        Ended::BadFrame(_) => 3,
         Ended::Truncated => 4,
         Ended::ReadFault => 5,
         Ended::WriteFault => 6,

@@ -1,5 +1,5 @@
 // A stream of commands, served to its end.
-ghost use Rattle.std.specs.Prelude.{◌≡◌, ◌≢◌, ◌≤◌, ◌<◌, [], false, IfOk, OnOk, OnErr, length, take, replicate};
+ghost use Rattle.std.specs.Prelude.{◌≡◌, ◌≢◌, ◌≤◌, ◌<◌, [], None, IfOk, OnOk, OnErr, length, take, replicate};
 ghost use Rattle.outside.specs.Contents.{Takes, IsSpent};
 ghost use Rattle.outside.specs.Faults.{Rose};
 ghost use Rattle.module_frames.specs.Fragments.{IsPartial, new_fragment};
@@ -19,8 +19,9 @@ use state_model::Module;
 pub enum Ended {
     /// The source ended at a frame's boundary, and each command was answered.
     End,
-    /// The bytes show a fault. The commands before it were answered.
-    BadFrame,
+    /// The bytes show a fault at this place, its offset in the whole stream: that of the wrong byte, or of the first byte
+    /// of a length that is too large. The commands before it were answered.
+    BadFrame(u64),
     /// The source ended inside a frame. The commands before it were answered.
     Truncated,
     /// The source failed. The commands that were whole were answered.
@@ -76,7 +77,7 @@ fn serve_stream<S: Source, K: Sink>(
             Ok(count) => {
                 match serve_piece(module, replies, frames, reply, &chunk[..count]) {
                     Served::All => {}
-                    Served::BadFrame => return Ended::BadFrame,
+                    Served::BadFrame(place) => return Ended::BadFrame(place),
                     Served::WriteFault => return Ended::WriteFault,
                 }
                 taken += count as u64;
@@ -88,9 +89,9 @@ fn serve_stream<S: Source, K: Sink>(
 
 // How a stream without a fault ends, with these bytes held.
 fn end_of(frames: &Frames) -> Ended
-    requires sound { frames.now.broken ≡ false }
+    requires sound { frames.now.fault ≡ None }
     requires partial { IsPartial frames.now.bytes }
-    ensures { result ≡ ending_of frames.now.bytes }
+    ensures { result ≡ ending_of frames.now.offset frames.now.bytes }
 {
     if frames.at_boundary() {
         Ended::End

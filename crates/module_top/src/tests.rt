@@ -1,8 +1,10 @@
 // Whole runs of the program: worked dialogues, streams that are cut or broken, and calls that fail.
 ghost use Rattle.std.specs.Prelude.{◌≤◌};
 
-use crate::{RunFault, run};
+use crate::{Ended, RunFault, run, serve};
+use module_frames::{Fed, Frames, Reply};
 use outside::{MemSink, MemSource};
+use state_model::Module;
 use std::alloc::Global;
 use std::test::Fail;
 
@@ -160,6 +162,75 @@ fn refuses_each_other_byte_of_a_header(rt: HostRuntime) -> Result<(), Fail> {
             );
         }
     }
+    Ok(())
+}
+
+// Serves these bytes, which come so many at a time, and tells how that ended.
+fn ending(alloc: Global, bytes: &[u8], step: usize) -> Result<Ended, Fail>
+    requires { 1 ≤ step }
+{
+    let mut module = Module::open(alloc)?;
+    let mut frames = Frames::new(alloc)?;
+    let mut reply = Reply::new(alloc)?;
+    let mut chunk = vec![in alloc; 0; 100]?;
+    let mut commands = MemSource::new(bytes.to_vec(alloc)?, step, Vec::new(alloc));
+    let mut replies = MemSink::new(alloc, 1_000, 24, Vec::new(alloc))?;
+    Ok(serve(
+        &mut module,
+        &mut commands,
+        &mut replies,
+        &mut frames,
+        &mut reply,
+        &mut chunk,
+    ))
+}
+
+// Streams with a fault, and its place.
+const FAULTS: [(&[u8], u64); 9] = [
+    (&[0xc5, 0x01, 0x04, 0, 0, 0x01, 0, 0x41], 4),
+    (&[0xc4], 0),
+    (&[0xc5, 0x01, 0x04, 0xff], 3),
+    (&[0xc5, 0x02, 0x04, 0, 0, 0, 0, 0], 1),
+    // The first of two wrong bytes counts.
+    (&[0xc5, 0x01, 0x04, 0xff, 0xff, 0xff, 0xff, 0xff], 3),
+    (&[0xc5, 0x01, 0x01, 0, 0, 0, 0, 4, 0, 0, 0, 0, 0xc4], 12),
+    (
+        &[0xc5, 0x01, 0x01, 0, 0, 0, 0, 4, 0, 0, 0, 0, 0xc5, 0x02],
+        13,
+    ),
+    (
+        &[0xc5, 0x01, 0x04, 0, 0, 0, 0, 0, 0xc5, 0x01, 0x04, 0x01],
+        11,
+    ),
+    (
+        &[
+            0xc5, 0x01, 0x04, 0, 0, 0, 0, 0, 0xc5, 0x01, 0x04, 0, 0, 0x01, 0, 0x41,
+        ],
+        12,
+    ),
+];
+
+#[test]
+fn tells_the_place_of_a_fault(rt: HostRuntime) -> Result<(), Fail> {
+    for (bytes, place) in FAULTS {
+        for step in [1, 3, 100] {
+            let ended = ending(rt.alloc(), bytes, step)?;
+            assert_eq!(rt; ended, Ended::BadFrame(place));
+        }
+    }
+    Ok(())
+}
+
+#[test]
+fn answers_the_same_place_for_good(rt: HostRuntime) -> Result<(), Fail> {
+    let mut frames = Frames::new(rt.alloc())?;
+    assert_eq!(rt; frames.feed(&[0xc5, 0x01]), Fed::More);
+    assert_eq!(rt; frames.feed(&[0x04, 0xff, 0xc4]), Fed::BadFrame(3));
+    assert_eq!(rt; frames.feed(&STREAM), Fed::BadFrame(3));
+    assert_eq!(rt; frames.feed(&[]), Fed::BadFrame(3));
+    frames.clear();
+    assert_eq!(rt; frames.feed(&[0xc4]), Fed::BadFrame(3));
+    assert!(rt; !frames.at_boundary());
     Ok(())
 }
 

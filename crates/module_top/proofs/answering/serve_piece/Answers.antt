@@ -1,6 +1,7 @@
-use Rattle.std.proofs.Common.{◌≡◌, ◌+◌, ◌++◌, [], length, take, drop, refl, ◌∙◌, ap, arith, length-append}
+use Rattle.std.proofs.Common.{◌≡◌, ◌+◌, ◌++◌, [], length, take, drop, refl, ◌∙◌, ap, subst, arith, length-append}
 use Rattle.std.proofs.lemmas.List.{take_rest, length-take-le, length-drop}
 use Rattle.module_frames.specs.Fragments.{Fragment}
+use Rattle.module_top.specs.Desk.{ServedToFault}
 use Rattle.module_top.proofs.Going.{served_none}
 use Rattle.module_top.proofs.Pieces.{Underway, all_served, fault_served, command_served, command_cut}
 use Rattle.module_top.proofs.answering.serve_piece.Goals as goal
@@ -25,13 +26,15 @@ returns-in-More-clause-all g c _ =
     all_served way took
 
 pub returns-in-BadFrame-clause-fault : goal.returns-in-BadFrame-clause-fault
-returns-in-BadFrame-clause-fault g c _ =
+returns-in-BadFrame-clause-fault g c place is =
     let i = c.loop-done.invariant in
     let took = rw (take_rest c.args.piece.now c.loop-done.done) at (c.in-BadFrame.ensures.before_fault i.sound) in
     let way : Underway (record { kept = c.args.module.now; gained = g.K.Sink.gained c.args.replies.now }) c.args.frames.now c.args.piece.now c.loop-done.done c.loop-done.frames
     (record { kept = c.loop-done.module; gained = g.K.Sink.gained c.loop-done.replies }) =
     record { within = i.within; served = i.served; partial = i.partial; sound = i.sound; place = i.place } in
-    fault_served {new = c.feed.new.self} way took
+    let same : c.in-BadFrame.place ≡ place = cc in
+    subst (λ p. ServedToFault (record { kept = c.args.module.now; gained = g.K.Sink.gained c.args.replies.now }) c.args.frames.now c.args.piece.now p
+    (record { kept = c.loop-done.module; gained = g.K.Sink.gained c.loop-done.replies })) same (fault_served {new = c.feed.new.self} way took)
 
 pub returns-in-Err-clause-write_fault : goal.returns-in-Err-clause-write_fault
 returns-in-Err-clause-write_fault g c _ =
@@ -59,7 +62,7 @@ loop-done-preserved g c =
       served = rw none (command_served {next = record { kept = c.answer.new.module; gained = g.K.Sink.gained c.answer.new.replies }} {new = c.feed.new.self} {command = c.command.result.now}
           way took c.command.ensures c.in-Ok.ensures.step c.in-Ok.ensures.whole);
       partial = c.clear.ensures.partial;
-      sound = ap (λ (f : Fragment). f.broken) c.clear.ensures.cleared ∙ ap (λ (f : Fragment). f.broken) took.1 ∙ i.sound;
+      sound = ap (λ (f : Fragment). f.fault) c.clear.ensures.cleared ∙ ap (λ (f : Fragment). f.fault) took.1 ∙ i.sound;
       place = omega (
         arith,
         moved,

@@ -1,4 +1,4 @@
-use Rattle.std.proofs.Common.{◌≡◌, ◌-◌, ◌+◌, ◌≤◌, false, take, length}
+use Rattle.std.proofs.Common.{◌≡◌, ◌-◌, ◌+◌, ◌≤◌, None, take, length}
 use Rattle.module_frames.specs.Fragments.{IsPartial}
 use Rattle.module_top.specs.Desk.{Served}
 use Rattle.module_top.proofs.answering.serve_piece.Given as goal
@@ -9,7 +9,7 @@ invariant-loop-done g l = record {
   served : Served (record { kept = l.fn.module; gained = g.K.Sink.gained l.fn.replies }) l.fn.frames.bytes (take l.done l.piece)
       l.frames.bytes (record { kept = l.module; gained = g.K.Sink.gained l.replies });
   partial : IsPartial l.frames.bytes;
-  sound : l.frames.broken ≡ false;
+  sound : l.frames.fault ≡ None;
   place : l.frames.offset + length l.frames.bytes ≡ l.fn.frames.offset + length l.fn.frames.bytes + l.done;
   steady : g.K.Sink.faults l.replies ≡ g.K.Sink.faults l.fn.replies;
 }

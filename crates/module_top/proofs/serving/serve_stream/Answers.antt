@@ -1,8 +1,9 @@
-use Rattle.std.proofs.Common.{◌≡◌, ◌++◌, [], length, take, refl, sym, ◌∙◌, subst, arith, length-append}
+use Rattle.std.proofs.Common.{◌≡◌, ◌+◌, ◌++◌, [], length, take, refl, sym, ◌∙◌, ap, subst, arith, length-append}
 use Rattle.std.proofs.lemmas.List.{length-take-le, append-nil}
 use Rattle.outside.specs.Contents.{Takes}
 use Rattle.outside.proofs.Runs.{takes_none, takes_both}
 use Rattle.module_frames.proofs.Holding.{nothing_is_partial}
+use Rattle.module_top.specs.Run.{rest_start, ending_of}
 use Rattle.module_top.proofs.Going.{served_none, served_both, cut_both}
 use Rattle.module_top.proofs.Ending.{answered_of, ends_at, all_of, broken_ending}
 use Rattle.module_top.proofs.serving.serve_stream.Goals as goal
@@ -33,21 +34,23 @@ returns-in-Ok-eq0-clause-served g c s represents =
     let none = rw zero at c.in-Ok-eq0.ensures.taken in
     let spent = c.in-Ok-eq0.ensures.end zero in
     let takes = subst (λ taken. Takes (g.S.Source.left c.args.commands.now) taken (g.S.Source.left c.read_some.new.commands)) (append-nil so_far.0) (takes_both _ _ _ so_far.0 [] so_far.1 none) in
-    ends_at c.loop-taken.frames.bytes c.end_of.result so_far.0 s c.loop-taken.module _ _ c.end_of.ensures i.partial.sound takes
+    ends_at c.loop-taken.frames.offset c.loop-taken.frames.bytes c.end_of.result so_far.0 s c.loop-taken.module _ _ c.end_of.ensures i.partial.sound takes
     (answered_of _ _ s represents so_far.3 i.partial.unfinished) (omega (arith, so_far.2, c.loop-taken-test.true)) (all_of _ _ so_far.0 so_far.1 spent)
 
 pub returns-in-BadFrame-clause-served : goal.returns-in-BadFrame-clause-served
 returns-in-BadFrame-clause-served g c s represents =
     let i = c.loop-taken.invariant in
     let so_far = i.served in
-    let next = c.in-BadFrame.ensures.fault refl in
+    let next = c.in-BadFrame.ensures.fault c.in-BadFrame.place refl in
     let piece = take c.in-Ok.count c.read_some.new.chunk in
-    let long : length piece ≡ c.in-Ok.count = length-take-le c.in-Ok.count c.read_some.new.chunk (omega (arith, c.in-Ok.ensures.size.0)) in (
+    let long : length piece ≡ c.in-Ok.count = length-take-le c.in-Ok.count c.read_some.new.chunk (omega (arith, c.in-Ok.ensures.size.0)) in
+    let all : length (so_far.0 ++ piece) ≡ c.loop-taken.taken + c.in-Ok.count = omega (arith, so_far.2, long, length-append so_far.0 piece) in
+    let start : rest_start (so_far.0 ++ piece) next.rest ≡ next.start = omega (arith, all, long, next.begins, i.place) in (
       so_far.0 ++ piece,
       next.rest,
       takes_both _ _ _ _ _ so_far.1 c.in-Ok.ensures.taken,
       answered_of _ _ s represents (served_both so_far.3 next.served) next.fault.unfinished,
-      (broken_ending next.rest next.fault.fault, omega (arith, so_far.2, long, length-append so_far.0 piece, c.in-Ok.ensures.size.1, c.loop-taken-test.true)),
+      (ap (λ n. ending_of n next.rest) start ∙ broken_ending next.start next.rest c.in-BadFrame.place next.fault.fault, omega (arith, all, c.in-Ok.ensures.size.1, c.loop-taken-test.true)),
     )
 
 pub returns-in-WriteFault-clause-served : goal.returns-in-WriteFault-clause-served

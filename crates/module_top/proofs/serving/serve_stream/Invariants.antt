@@ -1,4 +1,4 @@
-use Rattle.std.proofs.Common.{◌≡◌, ◌+◌, ◌-◌, ◌≤◌, ◌^◌, ℕ, List, [], false, length}
+use Rattle.std.proofs.Common.{◌≡◌, ◌+◌, ◌-◌, ◌≤◌, ◌^◌, ℕ, List, [], None, length}
 use Rattle.outside.specs.Contents.{Takes}
 use Rattle.module_frames.specs.Fragments.{IsPartial}
 use Rattle.module_top.specs.Desk.{Served}
@@ -10,7 +10,7 @@ invariant-loop-taken g l = record {
       × Served (record { kept = l.fn.module; gained = g.K.Sink.gained l.fn.replies }) [] took
       l.frames.bytes (record { kept = l.module; gained = g.K.Sink.gained l.replies });
   partial : IsPartial l.frames.bytes;
-  sound : l.frames.broken ≡ false;
+  sound : l.frames.fault ≡ None;
   place : l.frames.offset + length l.frames.bytes ≡ l.taken;
   within : l.taken ≤ 2 ^ 40;
   reads : g.S.Source.faults l.commands ≡ g.S.Source.faults l.fn.commands;

@@ -12,7 +12,7 @@ invariant_of-self c = record {
   headless = λ h. c.clear.ensures;
   headed = λ h. absurd (omega arith);
   within = λ h. absurd (omega arith);
-  fresh = λ h. refl;
+  fresh = λ place h. refl;
   short = rw (c.clear.ensures, c.body.ensures.body) (omega (arith, c.self.invariant.short, length-held c.self.inside c.self.invariant));
 }
 

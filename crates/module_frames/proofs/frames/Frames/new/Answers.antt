@@ -12,7 +12,7 @@ invariant_of-result c = record {
   headless = λ h. c.in_ok-command.ensures;
   headed = λ h. absurd (omega arith);
   within = λ h. absurd (omega arith);
-  fresh = λ h. refl;
+  fresh = λ place h. refl;
   short = rw c.in_ok-command.ensures (omega arith);
 }
 
