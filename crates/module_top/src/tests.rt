@@ -1,7 +1,9 @@
 // Whole runs of the program: worked dialogues, streams that are cut or broken, and calls that fail.
 ghost use Rattle.std.specs.Prelude.{◌≤◌};
 
+use crate::answering::send;
 use crate::{Ended, RunFault, run, serve};
+use bits_core::{Enabled, Port};
 use module_frames::{Fed, Frames, Reply};
 use outside::{MemSink, MemSource};
 use state_model::Module;
@@ -35,7 +37,7 @@ fn outcome(alloc: Global, words: &[&str], bytes: &[u8], step: usize) -> Result<(
 {
     let words = words_of(alloc, words)?;
     let mut commands = MemSource::new(bytes.to_vec(alloc)?, step, Vec::new(alloc));
-    let mut replies = MemSink::new(alloc, 1_000, 24, Vec::new(alloc))?;
+    let mut replies = MemSink::new(alloc, 2_000, 24, Vec::new(alloc))?;
     let status = run(alloc, &words, &mut commands, &mut replies);
     Ok((status, replies))
 }
@@ -174,7 +176,7 @@ fn ending(alloc: Global, bytes: &[u8], step: usize) -> Result<Ended, Fail>
     let mut reply = Reply::new(alloc)?;
     let mut chunk = vec![in alloc; 0; 100]?;
     let mut commands = MemSource::new(bytes.to_vec(alloc)?, step, Vec::new(alloc));
-    let mut replies = MemSink::new(alloc, 1_000, 24, Vec::new(alloc))?;
+    let mut replies = MemSink::new(alloc, 2_000, 24, Vec::new(alloc))?;
     Ok(serve(
         &mut module,
         &mut commands,
@@ -462,6 +464,17 @@ impl Dialogue {
         }
         Ok(())
     }
+
+    // A body of fewer than 256 bytes.
+    fn ask(&mut self, service: u8, body: &[u8], status: u8, state: u8) -> Result<(), Fail> {
+        let length = u8::try_from(body.len()).ok().ok_or("a short body")?;
+        let head = [0xc5, 0x01, service, 0, 0, 0, 0, length];
+        self.stream.extend_from_slice(&head)?;
+        self.stream.extend_from_slice(body)?;
+        self.want
+            .extend_from_slice(&reply_to(&head, status, state, &[0; 12]))?;
+        Ok(())
+    }
 }
 
 #[test]
@@ -513,6 +526,104 @@ fn begins_an_entry_that_has_the_form(rt: HostRuntime) -> Result<(), Fail> {
         let (status, replies) = outcome(rt.alloc(), &["serve"], &dialogue.stream, 100)?;
         assert_eq!(rt; status, 0);
         assert_eq!(rt; replies.bytes(), dialogue.want.as_slice());
+    }
+    Ok(())
+}
+
+// From Off to Entry: a service, a body, and of the reply the status and the state. Each body that breaks a rule of its service is
+// refused, and what comes after it finds the module as it was.
+const BROKEN: [(u8, &[u8], u8, u8); 42] = [
+    (0x01, &[], 3, 0),
+    (0x01, &[0, 0, 3], 3, 0),
+    (0x01, &[0, 0, 0, 0, 3], 3, 0),
+    (0x01, &[0x00, 0x0f, 0x42, 0x41], 3, 0),
+    (0x04, &[0], 3, 0),
+    (0x05, &[0], 3, 0),
+    (0x01, &[0, 0, 0, 0], 0, 1),
+    (0x03, &[0], 3, 1),
+    (0x07, &[0], 3, 1),
+    (0x03, &[], 0, 2),
+    (0x02, &[0], 3, 2),
+    (0x02, &[], 0, 2),
+    (0x02, &[], 0, 2),
+    (0x02, &[], 0, 3),
+    (0x06, &[], 3, 3),
+    (0x06, &[1, 1], 3, 3),
+    (0x06, &[3], 3, 3),
+    (0x06, &[255], 3, 3),
+    (0x06, &[1], 0, 4),
+    (0x08, &[], 3, 4),
+    (0x08, &[3, 3, 0, 0, 0, 0, 0, 100], 3, 4),
+    (0x08, &[3, 3, 0, 0, 0, 0, 0, 100, 5, 0], 3, 4),
+    (0x0c, &[], 3, 4),
+    (0x0c, &[3, 3], 3, 4),
+    (0x0c, &[16], 3, 4),
+    (0x0c, &[255], 3, 4),
+    (0x0d, &[0], 3, 4),
+    (0x0e, &[], 3, 4),
+    (0x0e, &[3, 3], 3, 4),
+    (0x0e, &[16], 3, 4),
+    (0x0e, &[3], 0, 4),
+    (0x08, &[3, 3, 0, 0, 0, 0, 0, 100, 5], 0, 6),
+    (0x09, &[], 3, 6),
+    (0x09, &[7; 65], 3, 6),
+    (0x09, &[7; 64], 12, 6),
+    (0x0b, &[0], 3, 6),
+    (0x09, &[7; 5], 0, 6),
+    (0x09, &[7], 12, 6),
+    (0x0b, &[], 0, 4),
+    (0x0d, &[], 0, 4),
+    (0x06, &[0], 0, 3),
+    (0x04, &[], 0, 3),
+];
+
+#[test]
+fn refuses_each_broken_body(rt: HostRuntime) -> Result<(), Fail> {
+    let mut dialogue = Dialogue::new(rt.alloc());
+    for (service, body, status, state) in BROKEN {
+        dialogue.ask(service, body, status, state)?;
+    }
+    let (status, replies) = outcome(rt.alloc(), &["serve"], &dialogue.stream, 7)?;
+    assert_eq!(rt; status, 0);
+    assert_eq!(rt; replies.bytes(), dialogue.want.as_slice());
+    Ok(())
+}
+
+// A reply with a payload of three bytes.
+fn with_payload(alloc: Global) -> Result<Reply, Fail> {
+    let mut reply = Reply::new(alloc)?;
+    reply.service = 0x10;
+    {
+        let mut port = Port::<Enabled>::over(&mut reply.payload);
+        port.put(b"abc");
+    }
+    Ok(reply)
+}
+
+#[test]
+fn writes_the_payload_behind_the_header(rt: HostRuntime) -> Result<(), Fail> {
+    let mut want = [0; 27];
+    want[..3].copy_from_slice(&[0x5c, 0x01, 0x10]);
+    want[23..].copy_from_slice(b"\x03abc");
+    let reply = with_payload(rt.alloc())?;
+    for step in [1, 2, 24, 100] {
+        let mut replies = MemSink::new(rt.alloc(), 27, step, Vec::new(rt.alloc()))?;
+        assert!(rt; send(&reply, &mut replies).is_ok());
+        assert_eq!(rt; replies.bytes(), want.as_slice());
+    }
+    // The room, the number of a write that fails, and how many bytes are written.
+    for (room, failing, written) in [
+        (0, 9, 0),
+        (23, 9, 23),
+        (24, 9, 24),
+        (26, 9, 26),
+        (27, 1, 0),
+        (27, 2, 24),
+    ] {
+        let mut replies = MemSink::new(rt.alloc(), room, 24, [failing].to_vec(rt.alloc())?)?;
+        assert!(rt; send(&reply, &mut replies).is_err());
+        assert_eq!(rt; replies.bytes().len(), written);
+        assert!(rt; want.starts_with(replies.bytes()));
     }
     Ok(())
 }
