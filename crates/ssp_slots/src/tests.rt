@@ -51,57 +51,48 @@ fn a_parameter_is_put_shown_used_and_zeroised(rt: HostRuntime) -> Result<(), Fai
     Ok(())
 }
 
+// What a slot holds, if anything: a MAC key of this domain with so many uses left. Then what a source is wanted for, and the answer.
+const SOURCES: [(Option<Domain>, u32, Kind, bool, Result<(), SlotFault>); 7] = [
+    (None, 0, Kind::Aes, false, Err(SlotFault::EmptySlot)),
+    (
+        Some(Domain::Approved),
+        0,
+        Kind::Aes,
+        false,
+        Err(SlotFault::WrongKind),
+    ),
+    (
+        Some(Domain::Approved),
+        0,
+        Kind::Mac,
+        false,
+        Err(SlotFault::WrongDomain),
+    ),
+    (
+        Some(Domain::Approved),
+        0,
+        Kind::Mac,
+        true,
+        Err(SlotFault::Spent),
+    ),
+    (
+        Some(Domain::Other),
+        0,
+        Kind::Mac,
+        false,
+        Err(SlotFault::Spent),
+    ),
+    (Some(Domain::Approved), 1, Kind::Mac, true, Ok(())),
+    (Some(Domain::Other), 1, Kind::Mac, false, Ok(())),
+];
+
 #[test]
 fn a_source_is_refused_by_its_first_fault(rt: HostRuntime) -> Result<(), Fail> {
     let slot = SlotId::new(3).unwrap();
-    for (filled, domain, spent, kind, approved, want) in [
-        (
-            false,
-            Domain::Approved,
-            true,
-            Kind::Aes,
-            false,
-            Err(SlotFault::EmptySlot),
-        ),
-        (
-            true,
-            Domain::Approved,
-            true,
-            Kind::Aes,
-            false,
-            Err(SlotFault::WrongKind),
-        ),
-        (
-            true,
-            Domain::Approved,
-            true,
-            Kind::Mac,
-            false,
-            Err(SlotFault::WrongDomain),
-        ),
-        (
-            true,
-            Domain::Approved,
-            true,
-            Kind::Mac,
-            true,
-            Err(SlotFault::Spent),
-        ),
-        (
-            true,
-            Domain::Other,
-            true,
-            Kind::Mac,
-            false,
-            Err(SlotFault::Spent),
-        ),
-        (true, Domain::Approved, false, Kind::Mac, true, Ok(())),
-        (true, Domain::Other, false, Kind::Mac, false, Ok(())),
-    ] {
+    for (holds, uses, kind, approved, want) in SOURCES {
         let mut vault = Vault::new(rt.alloc())?;
-        if filled {
-            let uses = if spent { 1 } else { 2 };
-            let header = mac_header(domain, false, uses);
+        if let Some(domain) = holds {
+            let header = mac_header(domain, false, uses + 1);
             assert_eq!(rt; vault.put(slot, &header, b"fourteen bytes"), Ok(()));
             assert_eq!(rt; vault.source(slot, Kind::Mac, true), Ok(()));
         }
@@ -110,24 +101,25 @@ fn a_source_is_refused_by_its_first_fault(rt: HostRuntime) -> Result<(), Fail> {
     Ok(())
 }
 
+// The export flag of an approved MAC key that a slot holds, if it does. Then the domain that is wanted, and the answer.
+const EXPORTS: [(Option<bool>, Domain, Result<(), SlotFault>); 4] = [
+    (None, Domain::Other, Err(SlotFault::EmptySlot)),
+    (Some(false), Domain::Other, Err(SlotFault::NotExportable)),
+    (Some(true), Domain::Other, Err(SlotFault::WrongDomain)),
+    (Some(true), Domain::Approved, Ok(())),
+];
+
 #[test]
 fn the_other_refusals_come_in_their_order(rt: HostRuntime) -> Result<(), Fail> {
     let slot = SlotId::new(9).unwrap();
-    for (filled, export, domain, want) in [
-        (false, false, Domain::Other, Err(SlotFault::EmptySlot)),
-        (true, false, Domain::Other, Err(SlotFault::NotExportable)),
-        (true, true, Domain::Other, Err(SlotFault::WrongDomain)),
-        (true, true, Domain::Approved, Ok(())),
-    ] {
+    for (holds, domain, want) in EXPORTS {
         let mut vault = Vault::new(rt.alloc())?;
-        if filled {
+        if let Some(export) = holds {
             let header = mac_header(Domain::Approved, export, 1);
             assert_eq!(rt; vault.put(slot, &header, b"fourteen bytes"), Ok(()));
             assert_eq!(rt; vault.vacant(slot), Err(SlotFault::OccupiedSlot));
-            assert_eq!(rt;
-                vault.put(slot, &header, b"fifteen letters"),
-                Err(SlotFault::OccupiedSlot)
-            );
+            let again = vault.put(slot, &header, b"fifteen letters");
+            assert_eq!(rt; again, Err(SlotFault::OccupiedSlot));
             assert_eq!(rt; vault.bytes(slot), b"fourteen bytes".as_slice());
         }
         assert_eq!(rt; vault.export(slot, domain), want);
