@@ -11,7 +11,8 @@ use Rattle.service_table.specs.declared.state.State.{State}
 use Rattle.service_table.specs.declared.state.State.TheVariants as state
 use Rattle.service_table.specs.Numbers.{service_number, state_number, all_services, all_states}
 use Rattle.service_table.specs.Services.{class_of, is_permitted}
-use Rattle.service_table.specs.Laws.{ServicesKeepTheirNumbers, StatesKeepTheirNumbers, PayloadNeedsARole}
+use Rattle.service_table.specs.declared.status.Status.TheVariants as status
+use Rattle.service_table.specs.Laws.{ServicesKeepTheirNumbers, StatesKeepTheirNumbers, StatusesKeepTheirNumbers, PayloadNeedsARole, ErrorPermitsThree}
 
 pub services_keep : ServicesKeepTheirNumbers
 services_keep service.PowerOn = refl
@@ -37,6 +38,13 @@ states_keep state.Officer = refl
 states_keep state.User = refl
 states_keep state.Entry = refl
 states_keep state.Error = refl
+
+pub statuses_keep : StatusesKeepTheirNumbers
+statuses_keep status.Ok = refl
+statuses_keep status.UnknownService = refl
+statuses_keep status.NotInState = refl
+statuses_keep status.BadBody = refl
+statuses_keep status.BadLength = refl
 
 first_holds : (one rest : Bool) → (one && rest) ≡ true → one ≡ true
 first_holds true rest h = refl
@@ -92,3 +100,9 @@ pub payload_needs_a_role : PayloadNeedsARole
 payload_needs_a_role asked found gives allowed =
     in_role (class_of asked) (is_permitted asked found) found
     (everywhere (λ a f. payload_in_role (class_of a) (is_permitted a f) f) refl asked found) gives allowed
+
+pub error_permits_three : ErrorPermitsThree
+error_permits_three service.ShowStatus h = inl refl
+error_permits_three service.ShowVersion h = inr (inl refl)
+error_permits_three service.Reset h = inr (inr refl)
+error_permits_three _ h = cc
