@@ -24,10 +24,14 @@ services_keep service.SelectRole = refl
 services_keep service.Reset = refl
 services_keep service.EntryBegin = refl
 services_keep service.EntryBytes = refl
+services_keep service.EntryCommit = refl
 services_keep service.EntryAbort = refl
 services_keep service.Zeroise = refl
 services_keep service.ZeroiseAll = refl
 services_keep service.ShowSlot = refl
+services_keep service.Hash = refl
+services_keep service.Mac = refl
+services_keep service.MacVerify = refl
 
 pub states_keep : StatesKeepTheirNumbers
 states_keep state.Off = refl
@@ -44,7 +48,14 @@ statuses_keep status.Ok = refl
 statuses_keep status.UnknownService = refl
 statuses_keep status.NotInState = refl
 statuses_keep status.BadBody = refl
+statuses_keep status.EmptySlot = refl
+statuses_keep status.WrongKind = refl
+statuses_keep status.WrongDomain = refl
+statuses_keep status.Spent = refl
+statuses_keep status.OccupiedSlot = refl
 statuses_keep status.BadLength = refl
+statuses_keep status.CheckFailed = refl
+statuses_keep status.AuthFailed = refl
 
 first_holds : (one rest : Bool) → (one && rest) ≡ true → one ≡ true
 first_holds true rest h = refl

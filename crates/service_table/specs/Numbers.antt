@@ -29,10 +29,19 @@ status_number status.Ok = 0
 status_number status.UnknownService = 1
 status_number status.NotInState = 2
 status_number status.BadBody = 3
+status_number status.EmptySlot = 6
+status_number status.WrongKind = 7
+status_number status.WrongDomain = 8
+status_number status.Spent = 9
+status_number status.OccupiedSlot = 10
 status_number status.BadLength = 12
+status_number status.CheckFailed = 13
+status_number status.AuthFailed = 14
 
 abbrev pub all_statuses : List Status
-all_statuses = status.Ok ∷ status.UnknownService ∷ status.NotInState ∷ status.BadBody ∷ status.BadLength ∷ []
+all_statuses =
+    status.Ok ∷ status.UnknownService ∷ status.NotInState ∷ status.BadBody ∷ status.EmptySlot ∷ status.WrongKind ∷ status.WrongDomain ∷ status.Spent
+    ∷ status.OccupiedSlot ∷ status.BadLength ∷ status.CheckFailed ∷ status.AuthFailed ∷ []
 
 abbrev pub status_numbered : ℕ → Option Status
 status_numbered number = find (λ s. status_number s == number) all_statuses
@@ -47,15 +56,20 @@ service_number service.SelectRole = 0x06
 service_number service.Reset = 0x07
 service_number service.EntryBegin = 0x08
 service_number service.EntryBytes = 0x09
+service_number service.EntryCommit = 0x0a
 service_number service.EntryAbort = 0x0b
 service_number service.Zeroise = 0x0c
 service_number service.ZeroiseAll = 0x0d
 service_number service.ShowSlot = 0x0e
+service_number service.Hash = 0x10
+service_number service.Mac = 0x11
+service_number service.MacVerify = 0x12
 
 abbrev pub all_services : List Service
 all_services =
     service.PowerOn ∷ service.TestStep ∷ service.RequestTests ∷ service.ShowStatus ∷ service.ShowVersion ∷ service.SelectRole ∷ service.Reset
-    ∷ service.EntryBegin ∷ service.EntryBytes ∷ service.EntryAbort ∷ service.Zeroise ∷ service.ZeroiseAll ∷ service.ShowSlot ∷ []
+    ∷ service.EntryBegin ∷ service.EntryBytes ∷ service.EntryCommit ∷ service.EntryAbort ∷ service.Zeroise ∷ service.ZeroiseAll ∷ service.ShowSlot
+    ∷ service.Hash ∷ service.Mac ∷ service.MacVerify ∷ []
 
 abbrev pub service_numbered : ℕ → Option Service
 service_numbered number = find (λ s. service_number s == number) all_services

@@ -13,7 +13,7 @@ pub enum Class {
     Nothing,
 }
 
-/// The class of a service. No service gives data so far.
+/// The class of a service.
 pub fn class_of(service: Service) -> Class
     ensures { result ≡ class_of service }
 {
@@ -27,9 +27,12 @@ pub fn class_of(service: Service) -> Class
         | Service::Reset
         | Service::EntryBegin
         | Service::EntryBytes
+        | Service::EntryCommit
         | Service::EntryAbort
         | Service::Zeroise
         | Service::ZeroiseAll
-        | Service::ShowSlot => Class::Nothing,
+        | Service::ShowSlot
+        | Service::MacVerify => Class::Nothing,
+        Service::Hash | Service::Mac => Class::Payload,
     }
 }

@@ -1,6 +1,7 @@
 //! The table of services: numbers, states in which each is permitted, classes of output.
 #![tactic(auto)]
 
+mod approval;
 mod class;
 mod laws;
 mod service;
@@ -9,6 +10,7 @@ mod status;
 #[cfg(test)]
 mod tests;
 
+pub use approval::{approved, is_cryptographic};
 pub use class::{Class, class_of};
 pub use laws::table_laws;
 pub use service::{Service, permitted, service_of};

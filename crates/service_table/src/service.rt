@@ -26,6 +26,8 @@ pub enum Service {
     EntryBegin,
     /// Adds bytes to the parameter that is entered.
     EntryBytes,
+    /// Ends the entry, and fills the slot with it where it is whole and checks.
+    EntryCommit,
     /// Gives the entry up.
     EntryAbort,
     /// Makes a slot zero.
@@ -34,6 +36,12 @@ pub enum Service {
     ZeroiseAll,
     /// Shows what a slot holds, but for its bytes.
     ShowSlot,
+    /// A digest (FIPS 180-4).
+    Hash,
+    /// A MAC under a slot's key (FIPS 198-1).
+    Mac,
+    /// Whether a MAC under a slot's key is right.
+    MacVerify,
 }
 
 impl Service {
@@ -51,10 +59,14 @@ impl Service {
             Service::Reset => 0x07,
             Service::EntryBegin => 0x08,
             Service::EntryBytes => 0x09,
+            Service::EntryCommit => 0x0a,
             Service::EntryAbort => 0x0b,
             Service::Zeroise => 0x0c,
             Service::ZeroiseAll => 0x0d,
             Service::ShowSlot => 0x0e,
+            Service::Hash => 0x10,
+            Service::Mac => 0x11,
+            Service::MacVerify => 0x12,
         }
     }
 }
@@ -73,10 +85,14 @@ pub fn service_of(number: u8) -> Option<Service>
         0x07 => Some(Service::Reset),
         0x08 => Some(Service::EntryBegin),
         0x09 => Some(Service::EntryBytes),
+        0x0a => Some(Service::EntryCommit),
         0x0b => Some(Service::EntryAbort),
         0x0c => Some(Service::Zeroise),
         0x0d => Some(Service::ZeroiseAll),
         0x0e => Some(Service::ShowSlot),
+        0x10 => Some(Service::Hash),
+        0x11 => Some(Service::Mac),
+        0x12 => Some(Service::MacVerify),
         _ => None,
     }
 }
@@ -97,10 +113,13 @@ pub fn permitted(service: Service, state: State) -> bool
         Service::ShowStatus | Service::ShowVersion => true,
         Service::SelectRole => matches!(&state, State::Approved | State::Officer | State::User),
         Service::Reset => !matches!(&state, State::Off),
-        Service::EntryBytes | Service::EntryAbort => matches!(&state, State::Entry),
+        Service::EntryBytes | Service::EntryCommit | Service::EntryAbort => {
+            matches!(&state, State::Entry)
+        }
         Service::EntryBegin | Service::Zeroise | Service::ZeroiseAll => {
             matches!(&state, State::Officer)
         }
-        Service::ShowSlot => matches!(&state, State::Officer | State::User),
+        Service::ShowSlot | Service::Hash => matches!(&state, State::Officer | State::User),
+        Service::Mac | Service::MacVerify => matches!(&state, State::User),
     }
 }

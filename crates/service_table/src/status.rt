@@ -13,8 +13,22 @@ pub enum Status {
     NotInState,
     /// The body isn't of the service's form.
     BadBody,
-    /// The bytes are more than the parameter has.
+    /// The slot is empty.
+    EmptySlot,
+    /// The slot holds a parameter of another kind.
+    WrongKind,
+    /// The slot's parameter is approved, and the service isn't so used.
+    WrongDomain,
+    /// The slot's parameter has no use left.
+    Spent,
+    /// The slot is full.
+    OccupiedSlot,
+    /// The bytes are more than the parameter has, or fewer at its commit.
     BadLength,
+    /// The check value isn't that of the parameter.
+    CheckFailed,
+    /// The MAC isn't that of the text.
+    AuthFailed,
 }
 
 impl Status {
@@ -27,7 +41,14 @@ impl Status {
             Status::UnknownService => 1,
             Status::NotInState => 2,
             Status::BadBody => 3,
+            Status::EmptySlot => 6,
+            Status::WrongKind => 7,
+            Status::WrongDomain => 8,
+            Status::Spent => 9,
+            Status::OccupiedSlot => 10,
             Status::BadLength => 12,
+            Status::CheckFailed => 13,
+            Status::AuthFailed => 14,
         }
     }
 
@@ -40,7 +61,14 @@ impl Status {
             1 => Some(Status::UnknownService),
             2 => Some(Status::NotInState),
             3 => Some(Status::BadBody),
+            6 => Some(Status::EmptySlot),
+            7 => Some(Status::WrongKind),
+            8 => Some(Status::WrongDomain),
+            9 => Some(Status::Spent),
+            10 => Some(Status::OccupiedSlot),
             12 => Some(Status::BadLength),
+            13 => Some(Status::CheckFailed),
+            14 => Some(Status::AuthFailed),
             _ => None,
         }
     }
