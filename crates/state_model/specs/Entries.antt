@@ -2,7 +2,7 @@
 use Rattle.std.specs.Prelude.{◌≡◌, ℕ, ◌+◌, ◌-◌, ◌≤◌, ◌<◌, List, ◌++◌, length, take, drop, Some, None, IsTrue, MatchOption}
 use Rattle.std.specs.Option.{option_map_or}
 use Rattle.bits_core.specs.Parameters.{length_fits}
-use Rattle.bits_core.specs.ByteList.{zeros}
+use Rattle.bits_core.specs.ByteList.{IsBytes, zeros}
 use Rattle.state_model.specs.declared.entry.Entry.{Entry}
 use Rattle.state_model.specs.declared.entry.Target.{Target}
 
@@ -33,6 +33,7 @@ pub record IsEntered (target : Target) (entry : Entry) : Type 0 where
   pub uses : 1 ≤ target.header.uses
   pub within : entry.filled ≤ target.length
   pub room : length entry.bytes ≡ 64
+  pub byte_values : IsBytes entry.bytes
   pub rest : drop entry.filled entry.bytes ≡ zeros (64 - entry.filled)
 
 abbrev pub IsUnderway : Entry → Type 0

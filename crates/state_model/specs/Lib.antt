@@ -1,6 +1,7 @@
 pub mod Entries
 pub mod SlotBlock
 pub mod MachineState
+pub mod Commit
 pub mod Step
 pub mod Kept
 pub mod Held
