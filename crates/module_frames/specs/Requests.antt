@@ -1,11 +1,13 @@
 -- The forms of bodies: what a body asks of a service, and else nothing.
-use Rattle.std.specs.Prelude.{ℕ, ◌≤◌, ◌<◌, ◌==◌, ◌&&◌, nat_le, nat_lt, List, [], ◌∷◌, length, slice_index, Option, Some, None, IsTrue, if◌then◌else◌}
+use Rattle.std.specs.Prelude.{ℕ, ◌≡◌, ◌≤◌, ◌<◌, ◌==◌, ◌&&◌, nat_le, nat_lt, Bool, List, [], ◌∷◌, length, take, drop, slice_index, Option, Some, None, IsTrue, if◌then◌else◌}
 use Rattle.std.specs.Option.{option_map}
 use Rattle.std.specs.Int.{from_be_bytes, w32}
 use Rattle.bits_core.specs.declared.parameter.Header.{Header}
 use Rattle.bits_core.specs.declared.parameter.Kind.{Kind}
 use Rattle.bits_core.specs.declared.parameter.Domain.{Domain}
+use Rattle.bits_core.specs.declared.algorithm.Alg.{Alg}
 use Rattle.bits_core.specs.Parameters.{kind_of, domain_of, length_fits}
+use Rattle.bits_core.specs.Algorithms.{alg_of, alg_size}
 use Rattle.service_table.specs.declared.service.Service.{Service}
 use Rattle.service_table.specs.declared.service.Service.TheVariants as service
 use Rattle.module_frames.specs.declared.request.Request.{Request}
@@ -22,10 +24,14 @@ pub data Asked : Type 0 where
   Reset : Asked
   EntryBegin : (slot : ℕ) (header : Header) (long : ℕ) → Asked
   EntryBytes : (piece : List ℕ) → Asked
+  EntryCommit : (check : List ℕ) → Asked
   EntryAbort : Asked
   Zeroise : (slot : ℕ) → Asked
   ZeroiseAll : Asked
   ShowSlot : (slot : ℕ) → Asked
+  Hash : (alg : Alg) (text : List ℕ) → Asked
+  Mac : (slot : ℕ) (alg : Alg) (mac_length : ℕ) (text : List ℕ) → Asked
+  MacVerify : (slot : ℕ) (alg : Alg) (tag text : List ℕ) → Asked
 
 abbrev pub asked_of : Request → Asked
 asked_of (request.PowerOn period) = PowerOn period
@@ -37,10 +43,14 @@ asked_of (request.SelectRole role) = SelectRole role
 asked_of request.Reset = Reset
 asked_of (request.EntryBegin slot header long) = EntryBegin slot header long
 asked_of (request.EntryBytes piece) = EntryBytes piece.now
+asked_of (request.EntryCommit check) = EntryCommit check.now
 asked_of request.EntryAbort = EntryAbort
 asked_of (request.Zeroise slot) = Zeroise slot
 asked_of request.ZeroiseAll = ZeroiseAll
 asked_of (request.ShowSlot slot) = ShowSlot slot
+asked_of (request.Hash alg text) = Hash alg text.now
+asked_of (request.Mac slot alg mac_length text) = Mac slot alg mac_length text.now
+asked_of (request.MacVerify slot alg tag text) = MacVerify slot alg tag.now text.now
 
 -- a period of four bytes, at most 1,000,000
 abbrev pub power_on_of : List ℕ → Option Asked
@@ -80,9 +90,54 @@ entry_begin_of body =
 abbrev pub piece_of : List ℕ → Option Asked
 piece_of body = if nat_le 1 (length body) && nat_le (length body) 64 then Some (EntryBytes body) else None
 
+-- a check value of eight bytes
+abbrev pub commit_of : List ℕ → Option Asked
+commit_of body = if length body == 8 then Some (EntryCommit body) else None
+
 -- the number of a slot, of one byte, at most 15
 abbrev pub slot_of : List ℕ → Option ℕ
 slot_of body = if length body == 1 && nat_lt (slice_index body 0) 16 then Some (slice_index body 0) else None
+
+-- a hash's number in a byte, then the text
+abbrev pub hash_of : List ℕ → Option Asked
+hash_of body =
+    if nat_le 1 (length body)
+    then option_map (λ alg. Hash alg (drop 1 body)) (alg_of (slice_index body 0))
+    else None
+
+-- a MAC has at least one byte, and at most the hash's size
+abbrev pub is_mac_length : Alg → ℕ → Bool
+is_mac_length alg mac_length = nat_le 1 mac_length && nat_le mac_length (alg_size alg)
+
+-- a MAC of that length with a known hash, under a slot below 16
+abbrev pub mac_with : ℕ → Option Alg → ℕ → List ℕ → Option Asked
+mac_with slot (Some alg) mac_length text =
+    if nat_lt slot 16 && is_mac_length alg mac_length
+    then Some (Mac slot alg mac_length text)
+    else None
+mac_with slot None mac_length text = None
+
+-- slot, hash and the MAC's length in a byte each, then the text
+abbrev pub mac_of : List ℕ → Option Asked
+mac_of body =
+    if nat_le 3 (length body)
+    then mac_with (slice_index body 0) (alg_of (slice_index body 1)) (slice_index body 2) (drop 3 body)
+    else None
+
+-- the same with a MAC of that length in front of the text
+abbrev pub verify_with : ℕ → Option Alg → ℕ → List ℕ → Option Asked
+verify_with slot (Some alg) mac_length rest =
+    if nat_lt slot 16 && (is_mac_length alg mac_length && nat_le mac_length (length rest))
+    then Some (MacVerify slot alg (take mac_length rest) (drop mac_length rest))
+    else None
+verify_with slot None mac_length rest = None
+
+-- slot, hash and the MAC's length in a byte each, then the MAC and the text
+abbrev pub mac_verify_of : List ℕ → Option Asked
+mac_verify_of body =
+    if nat_le 3 (length body)
+    then verify_with (slice_index body 0) (alg_of (slice_index body 1)) (slice_index body 2) (drop 3 body)
+    else None
 
 -- a body without bytes
 abbrev pub empty_of : List ℕ → Asked → Option Asked
@@ -98,10 +153,14 @@ request_of service.SelectRole body = select_role_of body
 request_of service.Reset body = empty_of body Reset
 request_of service.EntryBegin body = entry_begin_of body
 request_of service.EntryBytes body = piece_of body
+request_of service.EntryCommit body = commit_of body
 request_of service.EntryAbort body = empty_of body EntryAbort
 request_of service.Zeroise body = option_map (λ slot. Zeroise slot) (slot_of body)
 request_of service.ZeroiseAll body = empty_of body ZeroiseAll
 request_of service.ShowSlot body = option_map (λ slot. ShowSlot slot) (slot_of body)
+request_of service.Hash body = hash_of body
+request_of service.Mac body = mac_of body
+request_of service.MacVerify body = mac_verify_of body
 
 -- the numbers of a request are within their bounds
 abbrev pub IsInRange : Asked → Type 0
@@ -109,8 +168,11 @@ IsInRange (PowerOn period) = period ≤ 1000000
 IsInRange (SelectRole role) = role ≤ 2
 IsInRange (EntryBegin slot header long) = (slot < 16) × (1 ≤ header.uses) × IsTrue (length_fits header.kind header.domain long)
 IsInRange (EntryBytes piece) = (1 ≤ length piece) × (length piece ≤ 64)
+IsInRange (EntryCommit check) = length check ≡ 8
 IsInRange (Zeroise slot) = slot < 16
 IsInRange (ShowSlot slot) = slot < 16
+IsInRange (Mac slot alg mac_length text) = (slot < 16) × (1 ≤ mac_length) × (mac_length ≤ alg_size alg)
+IsInRange (MacVerify slot alg tag text) = (slot < 16) × (1 ≤ length tag) × (length tag ≤ alg_size alg)
 IsInRange other = Unit {0}
 
 -- the service that a request is for
@@ -124,7 +186,11 @@ service_for (SelectRole role) = service.SelectRole
 service_for Reset = service.Reset
 service_for (EntryBegin slot header long) = service.EntryBegin
 service_for (EntryBytes piece) = service.EntryBytes
+service_for (EntryCommit check) = service.EntryCommit
 service_for EntryAbort = service.EntryAbort
 service_for (Zeroise slot) = service.Zeroise
 service_for ZeroiseAll = service.ZeroiseAll
 service_for (ShowSlot slot) = service.ShowSlot
+service_for (Hash alg text) = service.Hash
+service_for (Mac slot alg mac_length text) = service.Mac
+service_for (MacVerify slot alg tag text) = service.MacVerify

@@ -1,9 +1,10 @@
 // What the body of a command asks for.
 ghost use Rattle.std.specs.Prelude.{◌≡◌, ◌<◌, IfSome};
 ghost use Rattle.std.specs.Option.{option_map};
-ghost use Rattle.module_frames.specs.Requests.{asked_of, request_of, power_on_of, select_role_of, entry_begin_of, begin_of, piece_of, slot_of, service_for, IsInRange};
+ghost use Rattle.module_frames.specs.Requests.{asked_of, request_of, power_on_of, select_role_of, entry_begin_of, begin_of, piece_of, commit_of, slot_of, hash_of, is_mac_length, mac_with, mac_of, verify_with, mac_verify_of, service_for, IsInRange};
+ghost use Rattle.bits_core.specs.Algorithms.{alg_of};
 
-use bits_core::{Domain, Header, Kind, SlotId, fits};
+use bits_core::{Alg, Domain, Header, Kind, SlotId, fits};
 use service_table::Service;
 
 /// The largest period that a module may have.
@@ -38,6 +39,10 @@ pub enum Request<'a> {
     EntryBytes {
         piece: &'a [u8],
     },
+    /// Fill the slot with the parameter, where this is its check value.
+    EntryCommit {
+        check: &'a [u8],
+    },
     EntryAbort,
     Zeroise {
         slot: SlotId,
@@ -46,12 +51,32 @@ pub enum Request<'a> {
     ShowSlot {
         slot: SlotId,
     },
+    Hash {
+        alg: Alg,
+        text: &'a [u8],
+    },
+    /// The front of the text's MAC, of this length.
+    Mac {
+        slot: SlotId,
+        alg: Alg,
+        length: usize,
+        text: &'a [u8],
+    },
+    /// Whether the tag is the front of the text's MAC.
+    MacVerify {
+        slot: SlotId,
+        alg: Alg,
+        tag: &'a [u8],
+        text: &'a [u8],
+    },
 }
 
 /// The request that the body spells for the service. `None` exactly where the body isn't of the service's form:
 /// for `PowerOn` a number of four bytes, at most 1,000,000; for `SelectRole` a byte of at most 2; for `EntryBegin`
 /// slot, kind, domain, export flag, uses (four bytes, at least 1) and a length that fits; for `EntryBytes` 1 to 64
-/// bytes; for `Zeroise` and `ShowSlot` the byte of a slot's number, at most 15; and no byte for the others.
+/// bytes; for `EntryCommit` 8 bytes; for `Zeroise` and `ShowSlot` the byte of a slot's number, at most 15; for `Hash` the
+/// byte of an algorithm and the text; for `Mac` slot, algorithm, the MAC's length (1 to the hash's size) and the text; for
+/// `MacVerify` the same with the MAC in front of the text; and no byte for the others.
 pub fn read_request<'a>(service: Service, body: &'a [u8]) -> Option<Request<'a>>
     ensures read { option_map asked_of result ≡ request_of service body.now }
     ensures in_range { IfSome result (λ request. IsInRange (asked_of request)) }
@@ -67,6 +92,7 @@ pub fn read_request<'a>(service: Service, body: &'a [u8]) -> Option<Request<'a>>
         Service::Reset => body.is_empty().then_some(Request::Reset),
         Service::EntryBegin => read_entry_begin(body),
         Service::EntryBytes => read_piece(body),
+        Service::EntryCommit => read_commit(body),
         Service::EntryAbort => body.is_empty().then_some(Request::EntryAbort),
         Service::Zeroise => Some(Request::Zeroise {
             slot: read_slot(body)?,
@@ -75,6 +101,9 @@ pub fn read_request<'a>(service: Service, body: &'a [u8]) -> Option<Request<'a>>
         Service::ShowSlot => Some(Request::ShowSlot {
             slot: read_slot(body)?,
         }),
+        Service::Hash => read_hash(body),
+        Service::Mac => read_mac(body),
+        Service::MacVerify => read_mac_verify(body),
     }
 }
 
@@ -160,6 +189,14 @@ fn read_piece(body: &[u8]) -> Option<Request<'_>>
     Some(Request::EntryBytes { piece: body })
 }
 
+fn read_commit(body: &[u8]) -> Option<Request<'_>>
+    ensures read { option_map asked_of result ≡ commit_of body.now }
+    ensures in_range { IfSome result (λ request. IsInRange (asked_of request)) }
+    ensures asked { IfSome result (λ request. service_for (asked_of request) ≡ Service.EntryCommit) }
+{
+    (body.len() == 8).then_some(Request::EntryCommit { check: body })
+}
+
 fn read_slot(body: &[u8]) -> Option<SlotId>
     ensures read { result ≡ slot_of body.now }
     ensures in_range { IfSome result (λ slot. slot < 16) }
@@ -168,4 +205,86 @@ fn read_slot(body: &[u8]) -> Option<SlotId>
         [slot] => SlotId::new(*slot),
         _ => None,
     }
+}
+
+fn read_hash(body: &[u8]) -> Option<Request<'_>>
+    ensures read { option_map asked_of result ≡ hash_of body.now }
+    ensures in_range { IfSome result (λ request. IsInRange (asked_of request)) }
+    ensures asked { IfSome result (λ request. service_for (asked_of request) ≡ Service.Hash) }
+{
+    if body.is_empty() {
+        return None;
+    }
+    let alg = Alg::from_number(body[0])?;
+    Some(Request::Hash {
+        alg,
+        text: &body[1..],
+    })
+}
+
+// Whether a MAC with this hash may have this length.
+fn is_mac_length(alg: Alg, length: usize) -> bool
+    ensures { result ≡ is_mac_length alg length }
+{
+    1 <= length && length <= alg.size()
+}
+
+fn read_mac(body: &[u8]) -> Option<Request<'_>>
+    ensures read { option_map asked_of result ≡ mac_of body.now }
+    ensures in_range { IfSome result (λ request. IsInRange (asked_of request)) }
+    ensures asked { IfSome result (λ request. service_for (asked_of request) ≡ Service.Mac) }
+{
+    if body.len() < 3 {
+        return None;
+    }
+    mac(body[0], body[1], body[2], &body[3..])
+}
+
+fn mac(slot: u8, alg: u8, length: u8, text: &[u8]) -> Option<Request<'_>>
+    ensures read { option_map asked_of result ≡ mac_with slot (alg_of alg) length text.now }
+    ensures in_range { IfSome result (λ request. IsInRange (asked_of request)) }
+    ensures asked { IfSome result (λ request. service_for (asked_of request) ≡ Service.Mac) }
+{
+    let slot = SlotId::new(slot)?;
+    let alg = Alg::from_number(alg)?;
+    let length = usize::from(length);
+    if !is_mac_length(alg, length) {
+        return None;
+    }
+    Some(Request::Mac {
+        slot,
+        alg,
+        length,
+        text,
+    })
+}
+
+fn read_mac_verify(body: &[u8]) -> Option<Request<'_>>
+    ensures read { option_map asked_of result ≡ mac_verify_of body.now }
+    ensures in_range { IfSome result (λ request. IsInRange (asked_of request)) }
+    ensures asked { IfSome result (λ request. service_for (asked_of request) ≡ Service.MacVerify) }
+{
+    if body.len() < 3 {
+        return None;
+    }
+    mac_verify(body[0], body[1], body[2], &body[3..])
+}
+
+fn mac_verify(slot: u8, alg: u8, length: u8, rest: &[u8]) -> Option<Request<'_>>
+    ensures read { option_map asked_of result ≡ verify_with slot (alg_of alg) length rest.now }
+    ensures in_range { IfSome result (λ request. IsInRange (asked_of request)) }
+    ensures asked { IfSome result (λ request. service_for (asked_of request) ≡ Service.MacVerify) }
+{
+    let slot = SlotId::new(slot)?;
+    let alg = Alg::from_number(alg)?;
+    let length = usize::from(length);
+    if !is_mac_length(alg, length) || length > rest.len() {
+        return None;
+    }
+    Some(Request::MacVerify {
+        slot,
+        alg,
+        tag: &rest[..length],
+        text: &rest[length..],
+    })
 }
