@@ -53,6 +53,7 @@ statuses_keep status.WrongKind = refl
 statuses_keep status.WrongDomain = refl
 statuses_keep status.Spent = refl
 statuses_keep status.OccupiedSlot = refl
+statuses_keep status.NotExportable = refl
 statuses_keep status.BadLength = refl
 statuses_keep status.CheckFailed = refl
 statuses_keep status.AuthFailed = refl

@@ -34,6 +34,7 @@ status_number status.WrongKind = 7
 status_number status.WrongDomain = 8
 status_number status.Spent = 9
 status_number status.OccupiedSlot = 10
+status_number status.NotExportable = 11
 status_number status.BadLength = 12
 status_number status.CheckFailed = 13
 status_number status.AuthFailed = 14
@@ -41,7 +42,7 @@ status_number status.AuthFailed = 14
 abbrev pub all_statuses : List Status
 all_statuses =
     status.Ok ∷ status.UnknownService ∷ status.NotInState ∷ status.BadBody ∷ status.EmptySlot ∷ status.WrongKind ∷ status.WrongDomain ∷ status.Spent
-    ∷ status.OccupiedSlot ∷ status.BadLength ∷ status.CheckFailed ∷ status.AuthFailed ∷ []
+    ∷ status.OccupiedSlot ∷ status.NotExportable ∷ status.BadLength ∷ status.CheckFailed ∷ status.AuthFailed ∷ []
 
 abbrev pub status_numbered : ℕ → Option Status
 status_numbered number = find (λ s. status_number s == number) all_statuses

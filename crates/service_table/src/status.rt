@@ -23,6 +23,8 @@ pub enum Status {
     Spent,
     /// The slot is full.
     OccupiedSlot,
+    /// The slot's parameter may not leave the module.
+    NotExportable,
     /// The bytes are more than the parameter has, or fewer at its commit.
     BadLength,
     /// The check value isn't that of the parameter.
@@ -46,6 +48,7 @@ impl Status {
             Status::WrongDomain => 8,
             Status::Spent => 9,
             Status::OccupiedSlot => 10,
+            Status::NotExportable => 11,
             Status::BadLength => 12,
             Status::CheckFailed => 13,
             Status::AuthFailed => 14,
@@ -66,6 +69,7 @@ impl Status {
             8 => Some(Status::WrongDomain),
             9 => Some(Status::Spent),
             10 => Some(Status::OccupiedSlot),
+            11 => Some(Status::NotExportable),
             12 => Some(Status::BadLength),
             13 => Some(Status::CheckFailed),
             14 => Some(Status::AuthFailed),

@@ -1,0 +1,121 @@
+// MACs under the keys of the vault.
+ghost use Rattle.std.specs.Prelude.{◌≡◌, ◌≤◌, ◌+◌, ◌++◌, ◌&&◌, [], length, take, if◌then◌else◌};
+ghost use Rattle.bits_core.specs.Algorithms.{alg_size};
+ghost use Rattle.bits_core.specs.Shown.{holding};
+ghost use Rattle.ssp_slots.specs.Slots.{AreWellFormed};
+ghost use Rattle.crypto_services.specs.Core.{mac_served, mac_verify_served, is_in_approved, is_leftmost};
+ghost use Rattle.crypto_services.specs.Serves.{core_of, Serves};
+
+use crate::outcome::refusal;
+use crate::{Outcome, Parts};
+use bits_core::{Alg, Domain, Enabled, Inhibited, Kind, Port, SlotId, same, wipe};
+use engine_core::Engine;
+use service_table::{Service, Status, approved};
+use ssp_slots::Vault;
+
+/// The MAC of a text under the key of a slot (FIPS 198-1), as payload: its leftmost `mac_length` bytes. One use of the key is spent.
+/// Refused, in this order, with nothing spent: the slot is empty (EmptySlot); it holds no MAC key (WrongKind); its key is approved
+/// and the MAC is too short for an approved use (WrongDomain); its key has no use left (Spent).
+pub fn mac<E: Engine>(
+    parts: &mut Parts<E>,
+    slot: SlotId,
+    alg: Alg,
+    mac_length: usize,
+    text: &[u8],
+    mut port: Port<'_, Enabled>,
+) -> Outcome
+    requires least { 1 ≤ mac_length }
+    requires most { mac_length ≤ alg_size alg }
+    requires empty { port.outbox.now.bytes ≡ [] }
+    requires room { 65664 ≤ port.outbox.now.room }
+    ensures serves { Serves (mac_served E.calls (core_of parts.old) slot alg mac_length text.now) parts.new result port.exit.0.now.bytes }
+    ensures room { port.exit.0.now.room ≡ port.entry.outbox.now.room }
+    ensures well_formed { AreWellFormed parts.new.vault.slots }
+{
+    let is_approved = approved(Service::Mac, mac_length);
+    let in_approved = is_in_approved(&parts.vault, slot);
+    if let Err(fault) = parts.vault.source(slot, Kind::Mac, is_approved) {
+        return refusal(fault);
+    }
+    let mut out = [0; 64];
+    parts.engine.mac(alg, parts.vault.bytes(slot), text, &mut out);
+    put_leftmost(&mut port, &out, mac_length);
+    wipe(&mut out);
+    Outcome {
+        status: Status::Ok,
+        code: 0,
+        approved: is_approved && in_approved,
+    }
+}
+
+/// Whether a tag is the leftmost part of the MAC of a text under the key of a slot (FIPS 198-1): Ok if it is, and else AuthFailed.
+/// One use of the key is spent in both cases. Refused as `mac` is, by the length of the tag.
+pub fn mac_verify<E: Engine>(
+    parts: &mut Parts<E>,
+    slot: SlotId,
+    alg: Alg,
+    tag: &[u8],
+    text: &[u8],
+    port: Port<'_, Inhibited>,
+) -> Outcome
+    requires least { 1 ≤ length tag.now }
+    requires most { length tag.now ≤ alg_size alg }
+    requires empty { port.outbox.now.bytes ≡ [] }
+    ensures serves { Serves (mac_verify_served E.calls (core_of parts.old) slot alg tag.now text.now) parts.new result port.exit.0.now.bytes }
+    ensures room { port.exit.0.now.room ≡ port.entry.outbox.now.room }
+    ensures well_formed { AreWellFormed parts.new.vault.slots }
+{
+    let is_approved = approved(Service::MacVerify, tag.len());
+    let in_approved = is_in_approved(&parts.vault, slot);
+    if let Err(fault) = parts.vault.source(slot, Kind::Mac, is_approved) {
+        return refusal(fault);
+    }
+    let mut out = [0; 64];
+    parts.engine.mac(alg, parts.vault.bytes(slot), text, &mut out);
+    let right = has_leftmost(&out, tag);
+    wipe(&mut out);
+    verified(right, is_approved && in_approved)
+}
+
+/// Puts the first `count` bytes of an engine's output.
+pub fn put_leftmost(port: &mut Port<'_, Enabled>, whole: &[u8; 64], count: usize)
+    requires most { count ≤ 64 }
+    requires room { length port.old.outbox.now.bytes + count ≤ port.old.outbox.now.room }
+    ensures same { port.new.outbox.ghost_name ≡ port.old.outbox.ghost_name }
+    ensures put { port.new.outbox.now ≡ holding (port.old.outbox.now.bytes ++ take count whole.now) port.old.outbox.now.room }
+{
+    port.put(&whole[..count]);
+}
+
+// Whether a tag is the leftmost part of an engine's output.
+fn has_leftmost(whole: &[u8; 64], tag: &[u8]) -> bool
+    requires { length tag.now ≤ 64 }
+    ensures { result ≡ is_leftmost tag.now whole.now }
+{
+    same(tag, &whole[..tag.len()])
+}
+
+// Whether a slot holds a parameter of the approved domain.
+fn is_in_approved(vault: &Vault, slot: SlotId) -> bool
+    ensures { result ≡ is_in_approved vault.now slot }
+{
+    match vault.show(slot).header {
+        Some(header) => header.domain == Domain::Approved,
+        None => false,
+    }
+}
+
+// What a check of a tag answers, where it is so used.
+fn verified(right: bool, approved: bool) -> Outcome
+    ensures { result ≡ record { status = if right then Status.Ok else Status.AuthFailed; code = 0; approved = right && approved } }
+{
+    Outcome {
+        status: if right {
+            Status::Ok
+        } else {
+            Status::AuthFailed
+        },
+        code: 0,
+        approved: right && approved,
+    }
+}
