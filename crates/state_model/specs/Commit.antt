@@ -1,6 +1,7 @@
 -- The commit of an entry (ISO/IEC 19790:2012, 7.9.5): it is whole, its slot is empty, and it checks.
 use Rattle.std.specs.Prelude.{◌≡◌, ℕ, ◌==◌, not, is_some, List, [], ◌∷◌, ◌++◌, length, take, Option, Some, None, if◌then◌else◌}
 use Rattle.std.specs.Int.{to_be_bytes, w32}
+use Rattle.std.specs.Str.{bytes_eq}
 use Rattle.bits_core.specs.declared.algorithm.Alg.TheVariants.{Sha256}
 use Rattle.bits_core.specs.Parameters.{kind_number, domain_number}
 use Rattle.service_table.specs.declared.status.Status.{Status}
@@ -36,7 +37,7 @@ not_committed core why = record { core = core; status = why }
 abbrev pub checked : {V : Type 0} → Calls V → Core V → Target → List ℕ → List ℕ → Committed V
 checked calls core target bytes check =
     let after = record core { engine = calls.mac_after core.engine Sha256 bytes (target_bytes target) } in
-    if same_bytes check (check_value calls core.engine target bytes)
+    if bytes_eq check (check_value calls core.engine target bytes)
     then record { core = record after { vault = with_slot core.vault target.slot (filled_slot target.header bytes) }; status = status.Ok }
     else not_committed after status.CheckFailed
 

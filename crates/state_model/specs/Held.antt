@@ -1,6 +1,6 @@
 -- How a module's fields are seen.
 use Rattle.state_model.specs.declared.module.Module.TheInside.{Inside}
-use Rattle.crypto_services.specs.Core.{core_of}
+use Rattle.crypto_services.specs.Serves.{core_of}
 use Rattle.state_model.specs.Kept.{Kept}
 use Rattle.state_model.specs.MachineState.{IsWellFormed}
 use Rattle.state_model.specs.Represents.{machine_of}

@@ -2,7 +2,7 @@
 ghost use Rattle.std.specs.Prelude.{◌≡◌, ◌≤◌, ◌<◌, Some, length, IsTrue};
 ghost use Rattle.bits_core.specs.Parameters.{length_fits};
 ghost use Rattle.ssp_slots.specs.Slots.{AreWellFormed};
-ghost use Rattle.crypto_services.specs.Core.{core_of};
+ghost use Rattle.crypto_services.specs.Serves.{core_of};
 ghost use Rattle.state_model.specs.Commit.{target_bytes, check_value, committed, Commits};
 
 use crate::entry::Target;
@@ -34,7 +34,7 @@ fn target_bytes(target: &Target) -> [u8; 9]
 // Whether this is the check value of the bytes.
 fn checks<E: Engine>(parts: &mut Parts<E>, target: &Target, bytes: &[u8], check: &[u8]) -> bool
     requires { target.now.length ≤ 64 }
-    ensures answer { result ≡ same_bytes check.now (check_value E.calls parts.old.engine target.now bytes.now) }
+    ensures answer { result ≡ bytes_eq check.now (check_value E.calls parts.old.engine target.now bytes.now) }
     ensures engine { parts.new ≡ record parts.old { engine = E.calls.mac_after parts.old.engine Alg.Sha256 bytes.now (target_bytes target.now) } }
 {
     let mut mac = [0; 64];
