@@ -1,6 +1,7 @@
 //! The program: the words after its name, standard input and standard output, and the exit status.
 #![tactic(auto)]
 
+use engine_core::Shipped;
 use module_top::{RunFault, run};
 use outside::{StdSink, StdSource};
 use std::env::{self, Env};
@@ -25,6 +26,7 @@ fn main(rt: HostRuntime) -> ExitCode {
             &words,
             &mut StdSource::new(rt.stdin()),
             &mut StdSink::new(rt.stdout()),
+            Shipped::new(),
         ),
         Err(error) if error.kind() == io::ErrorKind::InvalidData => USAGE,
         Err(_) => OUT_OF_MEMORY,

@@ -1,6 +1,7 @@
 -- How serving a stream ends.
 use Rattle.std.proofs.Common.{◌≡◌, ◌++◌, ◌<◌, ℕ, List, [], ◌∷◌, append-nil, sym, refl, ◌∙◌, ap, subst, length, Option, Some, None}
 use Rattle.std.specs.Option.{option_map_or}
+use Rattle.engine_core.specs.Calls.{Calls}
 use Rattle.outside.specs.Contents.{Takes, IsSpent}
 use Rattle.module_frames.specs.Streams.{BeginsNoCommand, first_fault, fault_from, body_length}
 use Rattle.state_model.specs.Kept.{Kept}
@@ -13,9 +14,9 @@ use Rattle.module_top.specs.Desk.{Desk, Served}
 use Rattle.module_top.specs.Serving.{Streams, Answered, Serves, IsAllOf, stream_max}
 
 -- what was served from the stream's beginning is the run over it
-pub answered_of : {a b : Desk} {taken rest : List ℕ} (left now : Option (List ℕ)) (s : MachineState) → Represents a.kept s → Served a [] taken rest b → BeginsNoCommand rest
-    → Answered s taken rest b.kept (record { left = left; gained = a.gained }) (record { left = now; gained = b.gained })
-answered_of {a} {b} {taken} {rest} left now s represents served unfinished =
+pub answered_of : {V : Type 0} (calls : Calls V) {a b : Desk V} {taken rest : List ℕ} (left now : Option (List ℕ)) (s : MachineState V) → Represents a.kept s → Served calls a [] taken rest b → BeginsNoCommand rest
+    → Answered calls s taken rest b.kept (record { left = left; gained = a.gained }) (record { left = now; gained = b.gained })
+answered_of calls {a} {b} {taken} {rest} left now s represents served unfinished =
     let did = served.each s represents in
     record {
       machine = did.0;
@@ -33,13 +34,13 @@ all_of (Some all) mid taken takes spent =
     takes.1 ∙ ap (λ xs. taken ++ xs) none ∙ append-nil taken
 
 -- a source that ended
-pub ends_at : (start : ℕ) (rest : List ℕ) (how : Ended) (taken : List ℕ) (s : MachineState) (m : Kept) (before after : Streams) → how ≡ ending_of start rest → first_fault rest ≡ None
-    → Takes before.left taken after.left → Answered s taken rest m before after → length taken < stream_max → IsAllOf taken before.left → Serves how s m before after
-ends_at start [] how taken s m before after is sound takes answered less spent =
-    subst (λ h. Serves h s m before after) (sym is) (taken, [], takes, answered, (refl, less, spent))
-ends_at start (byte ∷ rest) how taken s m before after is sound takes answered less spent =
+pub ends_at : {V : Type 0} (calls : Calls V) (start : ℕ) (rest : List ℕ) (how : Ended) (taken : List ℕ) (s : MachineState V) (m : Kept V) (before after : Streams) → how ≡ ending_of start rest → first_fault rest ≡ None
+    → Takes before.left taken after.left → Answered calls s taken rest m before after → length taken < stream_max → IsAllOf taken before.left → Serves calls how s m before after
+ends_at calls start [] how taken s m before after is sound takes answered less spent =
+    subst (λ h. Serves calls h s m before after) (sym is) (taken, [], takes, answered, (refl, less, spent))
+ends_at calls start (byte ∷ rest) how taken s m before after is sound takes answered less spent =
     let truncated : (place : ℕ) → ending_of place (byte ∷ rest) ≡ ended.Truncated = λ place. rw sound refl in
-    subst (λ h. Serves h s m before after) (sym (is ∙ truncated start)) (taken, byte ∷ rest, takes, answered, (truncated _, less, spent))
+    subst (λ h. Serves calls h s m before after) (sym (is ∙ truncated start)) (taken, byte ∷ rest, takes, answered, (truncated _, less, spent))
 
 -- a rest that shows a fault, whatever the end without it
 pub broken_other : (start : ℕ) (rest : List ℕ) (place : ℕ) (other : Ended) → fault_from start rest ≡ Some place → fault_or start rest other ≡ ended.BadFrame place

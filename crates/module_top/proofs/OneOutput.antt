@@ -1,6 +1,7 @@
 -- The definition of the program's output leaves nothing open.
 use Rattle.std.proofs.Common.{◌≡◌, ◌≢◌, ◌⊎◌, inl, inr, ℕ, List, [], ◌∷◌, length, take, get_or, drop, sym, refl, ◌∙◌, ap}
 use Rattle.std.proofs.lemmas.Bool.{cases_eq, cases_lt}
+use Rattle.engine_core.specs.Calls.{Calls}
 use Rattle.module_frames.proofs.Splitting.{one_way}
 use Rattle.state_model.specs.MachineState.{MachineState, initial_state}
 use Rattle.module_top.specs.declared.serving.Ended.TheVariants as ended
@@ -26,13 +27,13 @@ cases_words : (words : List (List ℕ)) → (words ≡ serve_words) ⊎ (words �
 cases_words words = cases_lists [] (cases_lists 0 cases_eq) words serve_words
 
 -- a run over bytes has one output and one rest
-one_run : (s t u : MachineState) (bytes out rest out' rest' : List ℕ) → Runs s bytes t out rest → Runs s bytes u out' rest' → (out ≡ out') × (rest ≡ rest')
-one_run s t u bytes out rest out' rest' one other =
+one_run : {V : Type 0} (calls : Calls V) (s t u : MachineState V) (bytes out rest out' rest' : List ℕ) → Runs calls s bytes t out rest → Runs calls s bytes u out' rest' → (out ≡ out') × (rest ≡ rest')
+one_run {V} calls s t u bytes out rest out' rest' one other =
     let same = one_way bytes one.commands other.commands rest rest' one.splits other.splits in
-    (ap (λ (ran : Ran). ran.out) (sym one.ran ∙ ap (λ commands. run_commands s commands) same.0 ∙ other.ran), same.1)
+    (ap (λ (ran : Ran V). ran.out) (sym one.ran ∙ ap (λ commands. run_commands calls s commands) same.0 ∙ other.ran), same.1)
 
-pub one_output : HasOneOutput
-one_output words bytes status status' out out' one other =
+pub one_output : {V : Type 0} (calls : Calls V) → HasOneOutput calls
+one_output calls engine words bytes status status' out out' one other =
     elim (cases_words words) [
       | inr others ↦ (
         (one.usage others).0 ∙ sym (other.usage others).0,
@@ -41,11 +42,11 @@ one_output words bytes status status' out out' one other =
       | inl is ↦ elim (cases_lt (length bytes) stream_max) [
         | inl short ↦ (let a = one.serve is short in
             let b = other.serve is short in
-            let same = one_run initial_state a.0 b.0 bytes out a.1 out' b.1 a.2 b.2 in
+            let same = one_run calls (initial_state engine) a.0 b.0 bytes out a.1 out' b.1 a.2 b.2 in
             (a.3 ∙ ap (λ rest. exit_status (ending_of (rest_start bytes rest) rest)) same.1 ∙ sym b.3, same.0))
         | inr long ↦ (let a = one.too_long is long in
             let b = other.too_long is long in
-            let same = one_run initial_state a.0 b.0 (take stream_max bytes) out a.1 out' b.1 a.2 b.2 in
+            let same = one_run calls (initial_state engine) a.0 b.0 (take stream_max bytes) out a.1 out' b.1 a.2 b.2 in
             (a.3 ∙ ap (λ rest. exit_status (fault_or (rest_start (take stream_max bytes) rest) rest ended.Limit)) same.1 ∙ sym b.3, same.0))
       ]
     ]

@@ -3,6 +3,7 @@ use Rattle.std.proofs.Common.{◌≡◌, ◌≢◌, ◌++◌, ◌<◌, ◌≤◌
 use Rattle.std.specs.Option.{option_map_or}
 use Rattle.std.proofs.lemmas.List.{append_assoc, take_at, drop_at}
 use Rattle.std.proofs.Math.Seq.{take-add}
+use Rattle.engine_core.specs.Calls.{Calls}
 use Rattle.module_frames.specs.Streams.{fault_from}
 use Rattle.module_frames.proofs.Headers.{fault_stays, fault_from_stays, shown_fault}
 use Rattle.module_frames.proofs.Spellings.{broken_begins_none}
@@ -58,9 +59,9 @@ ending_fault start [] place h = cc
 ending_fault start (byte ∷ rest) place h = chosen_fault (fault_from start (byte ∷ rest)) place h
 
 -- once a rest shows a fault the run is over, whatever follows
-run_stays : {s t : MachineState} {bytes out rest : List ℕ} (more : List ℕ) (start place : ℕ) → fault_from start rest ≡ Some place → Runs s bytes t out rest
-    → Runs s (bytes ++ more) t out (rest ++ more)
-run_stays {s} {t} {bytes} {out} {rest} more start place fault runs =
+run_stays : {V : Type 0} (calls : Calls V) {s t : MachineState V} {bytes out rest : List ℕ} (more : List ℕ) (start place : ℕ) → fault_from start rest ≡ Some place → Runs calls s bytes t out rest
+    → Runs calls s (bytes ++ more) t out (rest ++ more)
+run_stays calls {s} {t} {bytes} {out} {rest} more start place fault runs =
     let shown = shown_fault start rest place fault in
     record {
       commands = runs.commands;
@@ -86,28 +87,28 @@ start_stays : (bytes rest more all : List ℕ) → all ≡ bytes ++ more → res
 start_stays bytes rest more all e = omega (arith, ap length e, length-append bytes more, length-append rest more)
 
 -- a source that was read to its end
-output_at_end : (words : List (List ℕ)) (how : Ended) (m : Kept) (bytes before taken rest : List ℕ) (after : Streams) → words ≡ serve_words
-    → Answered initial_state taken rest m (record { left = Some bytes; gained = Some before }) after → ending_of (rest_start taken rest) rest ≡ how → length taken < stream_max → bytes ≡ taken
-    → (out : List ℕ) × IsProgramOutput words bytes (exit_status how) out × (after.gained ≡ Some (before ++ out))
-output_at_end words how m bytes before taken rest after is answered e less all = (
+output_at_end : {V : Type 0} (calls : Calls V) (engine : V) (words : List (List ℕ)) (how : Ended) (m : Kept V) (bytes before taken rest : List ℕ) (after : Streams) → words ≡ serve_words
+    → Answered calls (initial_state engine) taken rest m (record { left = Some bytes; gained = Some before }) after → ending_of (rest_start taken rest) rest ≡ how → length taken < stream_max → bytes ≡ taken
+    → (out : List ℕ) × IsProgramOutput calls engine words bytes (exit_status how) out × (after.gained ≡ Some (before ++ out))
+output_at_end calls engine words how m bytes before taken rest after is answered e less all = (
   answered.out,
   record {
     usage = λ other. absurd (other is);
-    serve = λ _ _. (answered.machine, rest, subst (λ xs. Runs initial_state xs answered.machine answered.out rest) (sym all) answered.runs, ap exit_status (sym e ∙ ap (λ xs. ending_of (rest_start xs rest) rest) (sym all)));
+    serve = λ _ _. (answered.machine, rest, subst (λ xs. Runs calls (initial_state engine) xs answered.machine answered.out rest) (sym all) answered.runs, ap exit_status (sym e ∙ ap (λ xs. ending_of (rest_start xs rest) rest) (sym all)));
     too_long = λ _ long. absurd (omega (arith, ap length all, less, long));
   },
   answered.gained,
 )
 
 -- where no call failed, what serving leaves is the program's output
-pub output_of : (words : List (List ℕ)) (how : Ended) (m : Kept) (bytes before : List ℕ) (after : Streams) → words ≡ serve_words
-    → Serves how initial_state m (record { left = Some bytes; gained = Some before }) after → exit_status how ≢ 5 → exit_status how ≢ 6
-    → (out : List ℕ) × IsProgramOutput words bytes (exit_status how) out × (after.gained ≡ Some (before ++ out))
-output_of words ended.End m bytes before after is (taken, rest, takes, answered, ends) no_read no_write =
-    output_at_end words ended.End m bytes before taken rest after is answered ends.0 ends.1 ends.2
-output_of words ended.Truncated m bytes before after is (taken, rest, takes, answered, ends) no_read no_write =
-    output_at_end words ended.Truncated m bytes before taken rest after is answered ends.0 ends.1 ends.2
-output_of words (ended.BadFrame place) m bytes before after is (taken, rest, takes, answered, ends) no_read no_write =
+pub output_of : {V : Type 0} (calls : Calls V) (engine : V) (words : List (List ℕ)) (how : Ended) (m : Kept V) (bytes before : List ℕ) (after : Streams) → words ≡ serve_words
+    → Serves calls how (initial_state engine) m (record { left = Some bytes; gained = Some before }) after → exit_status how ≢ 5 → exit_status how ≢ 6
+    → (out : List ℕ) × IsProgramOutput calls engine words bytes (exit_status how) out × (after.gained ≡ Some (before ++ out))
+output_of calls engine words ended.End m bytes before after is (taken, rest, takes, answered, ends) no_read no_write =
+    output_at_end calls engine words ended.End m bytes before taken rest after is answered ends.0 ends.1 ends.2
+output_of calls engine words ended.Truncated m bytes before after is (taken, rest, takes, answered, ends) no_read no_write =
+    output_at_end calls engine words ended.Truncated m bytes before taken rest after is answered ends.0 ends.1 ends.2
+output_of calls engine words (ended.BadFrame place) m bytes before after is (taken, rest, takes, answered, ends) no_read no_write =
     let start = rest_start taken rest in
     let fault : fault_from start rest ≡ Some place = ending_fault start rest place ends.0 in
     let more = takes.0 in
@@ -119,19 +120,19 @@ output_of words (ended.BadFrame place) m bytes before after is (taken, rest, tak
         serve = λ _ _. (
           answered.machine,
           rest ++ more,
-          subst (λ xs. Runs initial_state xs answered.machine answered.out (rest ++ more)) (sym takes.1) (run_stays more start place fault answered.runs),
+          subst (λ xs. Runs calls (initial_state engine) xs answered.machine answered.out (rest ++ more)) (sym takes.1) (run_stays calls more start place fault answered.runs),
           ap exit_status (sym (ap (λ n. ending_of n (rest ++ more)) (start_stays taken rest more bytes takes.1) ∙ broken_ending start (rest ++ more) place (fault_from_stays start rest more place fault))),
         );
         too_long = λ _ _. (
           answered.machine,
           rest ++ cut,
-          subst (λ xs. Runs initial_state xs answered.machine answered.out (rest ++ cut)) (sym first) (run_stays cut start place fault answered.runs),
+          subst (λ xs. Runs calls (initial_state engine) xs answered.machine answered.out (rest ++ cut)) (sym first) (run_stays calls cut start place fault answered.runs),
           ap exit_status (sym (ap (λ n. fault_or n (rest ++ cut) ended.Limit) (start_stays taken rest cut (take stream_max bytes) first) ∙ broken_other start (rest ++ cut) place ended.Limit (fault_from_stays start rest cut place fault))),
         );
       },
       answered.gained,
     )
-output_of words ended.Limit m bytes before after is (taken, rest, takes, answered, ends) no_read no_write = (
+output_of calls engine words ended.Limit m bytes before after is (taken, rest, takes, answered, ends) no_read no_write = (
   answered.out,
   record {
     usage = λ other. absurd (other is);
@@ -139,11 +140,11 @@ output_of words ended.Limit m bytes before after is (taken, rest, takes, answere
     too_long = λ _ _. (
       answered.machine,
       rest,
-      subst (λ xs. Runs initial_state xs answered.machine answered.out rest) (sym (ap (λ xs. take stream_max xs) takes.1 ∙ take_at taken takes.0 stream_max ends.0)) answered.runs,
+      subst (λ xs. Runs calls (initial_state engine) xs answered.machine answered.out rest) (sym (ap (λ xs. take stream_max xs) takes.1 ∙ take_at taken takes.0 stream_max ends.0)) answered.runs,
       rw ends.1 refl,
     );
   },
   answered.gained,
 )
-output_of words ended.ReadFault m bytes before after is served no_read no_write = absurd (no_read refl)
-output_of words ended.WriteFault m bytes before after is served no_read no_write = absurd (no_write refl)
+output_of calls engine words ended.ReadFault m bytes before after is served no_read no_write = absurd (no_read refl)
+output_of calls engine words ended.WriteFault m bytes before after is served no_read no_write = absurd (no_write refl)

@@ -2,6 +2,7 @@
 use Rattle.std.proofs.Common.{◌≡◌, ◌++◌, ◌<◌, ◌≤◌, ◌+◌, ℕ, List, [], None, append_assoc, refl, ◌∙◌, ap, subst, length, length-append, arith, take, drop}
 use Rattle.std.proofs.lemmas.List.{take-append-drop, length-drop}
 use Rattle.std.proofs.Math.Seq.{take-add}
+use Rattle.engine_core.specs.Calls.{Calls}
 use Rattle.outside.specs.Contents.{Gains}
 use Rattle.module_frames.specs.declared.frames.Fed.TheVariants as fed
 use Rattle.module_frames.specs.CommandFrames.{CommandFrame, IsCommandFrame}
@@ -14,76 +15,76 @@ use Rattle.module_top.specs.Desk.{Desk, Served, ServedAll, ServedToFault, CutSho
 use Rattle.module_top.proofs.Going.{served_held, served_both, cut_both, went_command, broke_command}
 
 -- a part of a piece was served, and these bytes are held
-pub record Underway (start : Desk) (old : Fragment) (piece : List ℕ) (done : ℕ) (mid : Fragment) (desk : Desk) : Type 0 where
+pub record Underway {V : Type 0} (calls : Calls V) (start : Desk V) (old : Fragment) (piece : List ℕ) (done : ℕ) (mid : Fragment) (desk : Desk V) : Type 0 where
   pub within : done ≤ length piece
-  pub served : Served start old.bytes (take done piece) mid.bytes desk
+  pub served : Served calls start old.bytes (take done piece) mid.bytes desk
   pub partial : IsPartial mid.bytes
   pub sound : mid.fault ≡ None
   pub place : mid.offset + length mid.bytes ≡ old.offset + length old.bytes + done
 
 -- the rest of the piece is held
-pub all_served : {start desk : Desk} {old mid new : Fragment} {piece : List ℕ} {done : ℕ} → Underway start old piece done mid desk
-    → Takes mid (drop done piece) fed.More new → ServedAll start old piece new desk
-all_served {start} {desk} {old} {mid} {new} {piece} {done} way took =
+pub all_served : {V : Type 0} (calls : Calls V) {start desk : Desk V} {old mid new : Fragment} {piece : List ℕ} {done : ℕ} → Underway calls start old piece done mid desk
+    → Takes mid (drop done piece) fed.More new → ServedAll calls start old piece new desk
+all_served calls {start} {desk} {old} {mid} {new} {piece} {done} way took =
     let bytes : new.bytes ≡ mid.bytes ++ drop done piece = ap (λ (f : Fragment). f.bytes) took.0 in
     let offset : new.offset ≡ mid.offset = ap (λ (f : Fragment). f.offset) took.0 in
     record {
-      served = subst (λ p. Served start old.bytes p new.bytes desk) (take-append-drop done piece) (served_both way.served (served_held desk mid.bytes (drop done piece) new.bytes bytes));
+      served = subst (λ p. Served calls start old.bytes p new.bytes desk) (take-append-drop done piece) (served_both calls way.served (served_held calls desk mid.bytes (drop done piece) new.bytes bytes));
       partial = took.1;
       sound = ap (λ (f : Fragment). f.fault) took.0 ∙ way.sound;
       place = omega (arith, offset, ap length bytes, length-append mid.bytes (drop done piece), length-drop done piece, way.place, way.within);
     }
 
 -- the rest of the piece shows a fault
-pub fault_served : {start desk : Desk} {old mid new : Fragment} {piece : List ℕ} {done place : ℕ} → Underway start old piece done mid desk
-    → Takes mid (drop done piece) (fed.BadFrame place) new → ServedToFault start old piece place desk
-fault_served {start} {desk} {old} {mid} {new} {piece} {done} {place} way took = record {
+pub fault_served : {V : Type 0} (calls : Calls V) {start desk : Desk V} {old mid new : Fragment} {piece : List ℕ} {done place : ℕ} → Underway calls start old piece done mid desk
+    → Takes mid (drop done piece) (fed.BadFrame place) new → ServedToFault calls start old piece place desk
+fault_served calls {start} {desk} {old} {mid} {new} {piece} {done} {place} way took = record {
   rest = mid.bytes ++ drop done piece;
   start = mid.offset;
-  served = subst (λ p. Served start old.bytes p (mid.bytes ++ drop done piece) desk) (take-append-drop done piece)
-      (served_both way.served (served_held desk mid.bytes (drop done piece) (mid.bytes ++ drop done piece) refl));
+  served = subst (λ p. Served calls start old.bytes p (mid.bytes ++ drop done piece) desk) (take-append-drop done piece)
+      (served_both calls way.served (served_held calls desk mid.bytes (drop done piece) (mid.bytes ++ drop done piece) refl));
   begins = omega (arith, length-append mid.bytes (drop done piece), length-drop done piece, way.place, way.within);
   fault = took.1;
 }
 
 -- a command became whole, and was done and answered
-pub command_served : {start desk next : Desk} {old mid new : Fragment} {piece : List ℕ} {done count : ℕ} {command : CommandFrame} → Underway start old piece done mid desk
+pub command_served : {V : Type 0} (calls : Calls V) {start desk next : Desk V} {old mid new : Fragment} {piece : List ℕ} {done count : ℕ} {command : CommandFrame} → Underway calls start old piece done mid desk
     → Takes mid (drop done piece) (fed.Whole count) new → IsCommandFrame command new.bytes
-    → ((s : MachineState) → Represents desk.kept s → Represents next.kept (step s command).machine)
-    → ((s : MachineState) → Represents desk.kept s → Gains desk.gained (reply_bytes s command) next.gained)
-    → Served start old.bytes (take (done + count) piece) [] next
-command_served {start} {desk} {next} {old} {mid} {new} {piece} {done} {count} {command} way took frame steps gains =
+    → ((s : MachineState V) → Represents desk.kept s → Represents next.kept (step calls s command).machine)
+    → ((s : MachineState V) → Represents desk.kept s → Gains desk.gained (reply_bytes calls s command) next.gained)
+    → Served calls start old.bytes (take (done + count) piece) [] next
+command_served calls {start} {desk} {next} {old} {mid} {new} {piece} {done} {count} {command} way took frame steps gains =
     let bytes : new.bytes ≡ mid.bytes ++ take count (drop done piece) = ap (λ (f : Fragment). f.bytes) took.1 in
-    let one : Served desk mid.bytes (take count (drop done piece)) [] next = record {
+    let one : Served calls desk mid.bytes (take count (drop done piece)) [] next = record {
       each = λ s represents. (
-        (step s command).machine,
-        reply_bytes s command,
+        (step calls s command).machine,
+        reply_bytes calls s command,
         steps s represents,
         gains s represents,
-        went_command s mid.bytes (take count (drop done piece)) new.bytes command bytes frame,
+        went_command calls s mid.bytes (take count (drop done piece)) new.bytes command bytes frame,
       );
     } in
-    rw (take-add done count piece) (served_both way.served one)
+    rw (take-add done count piece) (served_both calls way.served one)
 
 -- a command became whole and was done, and a part of its reply was written
-pub command_cut : {start desk next : Desk} {old mid new : Fragment} {piece : List ℕ} {done count : ℕ} {command : CommandFrame} → Underway start old piece done mid desk
+pub command_cut : {V : Type 0} (calls : Calls V) {start desk next : Desk V} {old mid new : Fragment} {piece : List ℕ} {done count : ℕ} {command : CommandFrame} → Underway calls start old piece done mid desk
     → Takes mid (drop done piece) (fed.Whole count) new → IsCommandFrame command new.bytes
-    → ((s : MachineState) → Represents desk.kept s → Represents next.kept (step s command).machine)
-    → ((s : MachineState) → Represents desk.kept s → (k : ℕ) × (k < length (reply_bytes s command)) × Gains desk.gained (take k (reply_bytes s command)) next.gained)
-    → CutShort start old.bytes piece next
-command_cut {start} {desk} {next} {old} {mid} {new} {piece} {done} {count} {command} way took frame steps part =
+    → ((s : MachineState V) → Represents desk.kept s → Represents next.kept (step calls s command).machine)
+    → ((s : MachineState V) → Represents desk.kept s → (k : ℕ) × (k < length (reply_bytes calls s command)) × Gains desk.gained (take k (reply_bytes calls s command)) next.gained)
+    → CutShort calls start old.bytes piece next
+command_cut calls {start} {desk} {next} {old} {mid} {new} {piece} {done} {count} {command} way took frame steps part =
     let bytes : new.bytes ≡ mid.bytes ++ take count (drop done piece) = ap (λ (f : Fragment). f.bytes) took.1 in
     let whole : new.bytes ++ drop count (drop done piece) ≡ mid.bytes ++ drop done piece =
     ap (λ xs. xs ++ drop count (drop done piece)) bytes ∙ append_assoc mid.bytes (take count (drop done piece)) (drop count (drop done piece))
     ∙ ap (λ xs. mid.bytes ++ xs) (take-append-drop count (drop done piece)) in
-    let one : CutShort desk mid.bytes (drop done piece) next = record {
+    let one : CutShort calls desk mid.bytes (drop done piece) next = record {
       each = λ s represents.
           let some = part s represents in (
-            (step s command).machine,
-            take some.0 (reply_bytes s command),
+            (step calls s command).machine,
+            take some.0 (reply_bytes calls s command),
             steps s represents,
             some.2,
-            broke_command s mid.bytes (drop done piece) new.bytes (drop count (drop done piece)) command some.0 whole frame some.1,
+            broke_command calls s mid.bytes (drop done piece) new.bytes (drop count (drop done piece)) command some.0 whole frame some.1,
           );
     } in
-    subst (λ p. CutShort start old.bytes p next) (take-append-drop done piece) (cut_both way.served one)
+    subst (λ p. CutShort calls start old.bytes p next) (take-append-drop done piece) (cut_both calls way.served one)

@@ -2,6 +2,7 @@
 use Rattle.std.specs.Prelude.{◌≡◌, ◌<◌, ◌+◌, ◌++◌, ℕ, List, length, take, Option, None}
 use Rattle.std.specs.List.{flat_map, AllByRecursion}
 use Rattle.outside.specs.Contents.{Gains}
+use Rattle.engine_core.specs.Calls.{Calls}
 use Rattle.module_frames.specs.CommandFrames.{CommandFrame, command_spelling, IsSendable}
 use Rattle.module_frames.specs.Fragments.{Fragment, IsPartial, IsBrokenAt}
 use Rattle.state_model.specs.Kept.{Kept}
@@ -15,54 +16,54 @@ abbrev pub GainsPart : Option (List ℕ) → List ℕ → Option (List ℕ) → 
 GainsPart before piece now = (count : ℕ) × (count < length piece) × Gains before (take count piece) now
 
 -- what serving works on: the module, and what the sink gained
-pub record Desk : Type 0 where
-  pub kept : Kept
+pub record Desk (V : Type 0) : Type 0 where
+  pub kept : Kept V
   pub gained : Option (List ℕ)
 
 -- From s, with bytes held, a piece leads to t and to other bytes held, and is answered by out.
-pub record Went (s : MachineState) (held piece : List ℕ) (t : MachineState) (rest out : List ℕ) : Type 0 where
+pub record Went {V : Type 0} (calls : Calls V) (s : MachineState V) (held piece : List ℕ) (t : MachineState V) (rest out : List ℕ) : Type 0 where
   pub commands : List CommandFrame
   pub whole : held ++ piece ≡ flat_map command_spelling commands ++ rest
   pub sendable : AllByRecursion IsSendable commands
-  pub ran : run_commands s commands ≡ record { machine = t; out = out }
+  pub ran : run_commands calls s commands ≡ record { machine = t; out = out }
 
 -- From s, with bytes held, a piece leads to t, and a write failed in the reply to the last command: the commands before it were
 -- answered, and of its reply there went less than all.
-pub record Broke (s : MachineState) (held piece : List ℕ) (t : MachineState) (out : List ℕ) : Type 0 where
+pub record Broke {V : Type 0} (calls : Calls V) (s : MachineState V) (held piece : List ℕ) (t : MachineState V) (out : List ℕ) : Type 0 where
   pub commands : List CommandFrame
   pub last : CommandFrame
   pub more : List ℕ
   pub whole : held ++ piece ≡ flat_map command_spelling commands ++ (command_spelling last ++ more)
   pub sendable : AllByRecursion IsSendable commands
   pub last_sendable : IsSendable last
-  pub answered : Ran
-  pub ran : run_commands s commands ≡ answered
-  pub stepped : t ≡ (step answered.machine last).machine
+  pub answered : Ran V
+  pub ran : run_commands calls s commands ≡ answered
+  pub stepped : t ≡ (step calls answered.machine last).machine
   pub count : ℕ
-  pub less : count < length (reply_bytes answered.machine last)
-  pub gained : out ≡ answered.out ++ take count (reply_bytes answered.machine last)
+  pub less : count < length (reply_bytes calls answered.machine last)
+  pub gained : out ≡ answered.out ++ take count (reply_bytes calls answered.machine last)
 
 -- with bytes held a piece was served, by the machine's definition, and other bytes are held
-pub record Served (before : Desk) (held piece rest : List ℕ) (after : Desk) : Type 0 where
-  pub each : (s : MachineState) → Represents before.kept s →
-      (t : MachineState) × (out : List ℕ) × Represents after.kept t × Gains before.gained out after.gained × Went s held piece t rest out
+pub record Served {V : Type 0} (calls : Calls V) (before : Desk V) (held piece rest : List ℕ) (after : Desk V) : Type 0 where
+  pub each : (s : MachineState V) → Represents before.kept s →
+      (t : MachineState V) × (out : List ℕ) × Represents after.kept t × Gains before.gained out after.gained × Went calls s held piece t rest out
 
 -- with bytes held a piece was served up to a failed write
-pub record CutShort (before : Desk) (held piece : List ℕ) (after : Desk) : Type 0 where
-  pub each : (s : MachineState) → Represents before.kept s →
-      (t : MachineState) × (out : List ℕ) × Represents after.kept t × Gains before.gained out after.gained × Broke s held piece t out
+pub record CutShort {V : Type 0} (calls : Calls V) (before : Desk V) (held piece : List ℕ) (after : Desk V) : Type 0 where
+  pub each : (s : MachineState V) → Represents before.kept s →
+      (t : MachineState V) × (out : List ℕ) × Represents after.kept t × Gains before.gained out after.gained × Broke calls s held piece t out
 
 -- all of a piece was served, and a frame may go on with the bytes held then
-pub record ServedAll (before : Desk) (old : Fragment) (piece : List ℕ) (new : Fragment) (after : Desk) : Type 0 where
-  pub served : Served before old.bytes piece new.bytes after
+pub record ServedAll {V : Type 0} (calls : Calls V) (before : Desk V) (old : Fragment) (piece : List ℕ) (new : Fragment) (after : Desk V) : Type 0 where
+  pub served : Served calls before old.bytes piece new.bytes after
   pub partial : IsPartial new.bytes
   pub sound : new.fault ≡ None
   pub place : new.offset + length new.bytes ≡ old.offset + length old.bytes + length piece
 
 -- a piece was served up to a fault, which the rest shows at this place in the stream
-pub record ServedToFault (before : Desk) (old : Fragment) (piece : List ℕ) (place : ℕ) (after : Desk) : Type 0 where
+pub record ServedToFault {V : Type 0} (calls : Calls V) (before : Desk V) (old : Fragment) (piece : List ℕ) (place : ℕ) (after : Desk V) : Type 0 where
   pub rest : List ℕ
   pub start : ℕ
-  pub served : Served before old.bytes piece rest after
+  pub served : Served calls before old.bytes piece rest after
   pub begins : start + length rest ≡ old.offset + length old.bytes + length piece
   pub fault : IsBrokenAt start rest place

@@ -1,6 +1,7 @@
 -- What serving a stream leaves, by how it ended.
 use Rattle.std.specs.Prelude.{◌≡◌, ◌≤◌, ◌<◌, ◌^◌, ℕ, List, [], length, Option, None, IfSome}
 use Rattle.outside.specs.Contents.{Takes, Gains}
+use Rattle.engine_core.specs.Calls.{Calls}
 use Rattle.module_frames.specs.Streams.{first_fault}
 use Rattle.state_model.specs.Kept.{Kept}
 use Rattle.state_model.specs.MachineState.{MachineState}
@@ -20,10 +21,10 @@ pub record Streams : Type 0 where
   pub gained : Option (List ℕ)
 
 -- the run over the bytes taken was done and answered
-pub record Answered (s : MachineState) (taken rest : List ℕ) (m : Kept) (before after : Streams) : Type 0 where
-  pub machine : MachineState
+pub record Answered {V : Type 0} (calls : Calls V) (s : MachineState V) (taken rest : List ℕ) (m : Kept V) (before after : Streams) : Type 0 where
+  pub machine : MachineState V
   pub out : List ℕ
-  pub runs : Runs s taken machine out rest
+  pub runs : Runs calls s taken machine out rest
   pub represents : Represents m machine
   pub gained : Gains before.gained out after.gained
 
@@ -46,9 +47,9 @@ EndsBy ended.WriteFault taken rest content = Unit {0}
 
 -- Serving from s: bytes were taken, and the run over them was done and answered. After a write fault it was done and answered up
 -- to a part of the last reply.
-abbrev pub Serves : Ended → MachineState → Kept → Streams → Streams → Type 0
-Serves ended.WriteFault s m before after =
+abbrev pub Serves : {V : Type 0} → Calls V → Ended → MachineState V → Kept V → Streams → Streams → Type 0
+Serves {V} calls ended.WriteFault s m before after =
     (taken : List ℕ) × Takes before.left taken after.left
-    × ((t : MachineState) × (out : List ℕ) × Represents m t × Gains before.gained out after.gained × Broke s [] taken t out)
-Serves how s m before after =
-    (taken : List ℕ) × (rest : List ℕ) × Takes before.left taken after.left × Answered s taken rest m before after × EndsBy how taken rest before.left
+    × ((t : MachineState V) × (out : List ℕ) × Represents m t × Gains before.gained out after.gained × Broke calls s [] taken t out)
+Serves {V} calls how s m before after =
+    (taken : List ℕ) × (rest : List ℕ) × Takes before.left taken after.left × Answered calls s taken rest m before after × EndsBy how taken rest before.left

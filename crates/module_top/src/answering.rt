@@ -11,6 +11,7 @@ ghost use Rattle.state_model.specs.Step.{step};
 ghost use Rattle.module_top.specs.Run.{reply_bytes};
 ghost use Rattle.module_top.specs.Desk.{GainsPart, ServedAll, ServedToFault, CutShort};
 
+use engine_core::Engine;
 use module_frames::{Command, Fed, Frames, Reply};
 use outside::{Failed, Sink};
 use state_model::Module;
@@ -43,17 +44,17 @@ pub fn send<K: Sink>(reply: &Reply, replies: &mut K) -> Result<(), Failed>
 }
 
 /// Does one command, and writes its reply.
-pub fn answer<K: Sink>(
-    module: &mut Module,
+pub fn answer<E: Engine, K: Sink>(
+    module: &mut Module<E>,
     command: &Command,
     reply: &mut Reply,
     replies: &mut K,
 ) -> Result<(), Failed>
-    ensures step { (s : MachineState) → Represents «module».old s → Represents «module».new (step s command.now).machine }
-    ensures whole { OnOk result ((s : MachineState) → Represents «module».old s →
-        Gains (K.gained replies.old) (reply_bytes s command.now) (K.gained replies.new)) }
-    ensures part { OnErr result ((s : MachineState) → Represents «module».old s →
-        GainsPart (K.gained replies.old) (reply_bytes s command.now) (K.gained replies.new)) }
+    ensures step { (s : MachineState E) → Represents «module».old s → Represents «module».new (step E.calls s command.now).machine }
+    ensures whole { OnOk result ((s : MachineState E) → Represents «module».old s →
+        Gains (K.gained replies.old) (reply_bytes E.calls s command.now) (K.gained replies.new)) }
+    ensures part { OnErr result ((s : MachineState E) → Represents «module».old s →
+        GainsPart (K.gained replies.old) (reply_bytes E.calls s command.now) (K.gained replies.new)) }
     ensures rose { OnErr result (Rose (K.faults replies.old) (K.faults replies.new)) }
     ensures steady { OnOk result (K.faults replies.new ≡ K.faults replies.old) }
 {
@@ -75,8 +76,8 @@ pub enum Served {
 }
 
 /// Serves a piece: does and answers each command that it ends.
-pub fn serve_piece<K: Sink>(
-    module: &mut Module,
+pub fn serve_piece<E: Engine, K: Sink>(
+    module: &mut Module<E>,
     replies: &mut K,
     frames: &mut Frames,
     reply: &mut Reply,
@@ -85,11 +86,11 @@ pub fn serve_piece<K: Sink>(
     requires sound { frames.old.fault ≡ None }
     requires partial { IsPartial frames.old.bytes }
     requires short { frames.old.offset + length frames.old.bytes + length piece.now ≤ 2 ^ 63 }
-    ensures all { result ≡ Served.All → ServedAll (record { kept = «module».old; gained = K.gained replies.old })
+    ensures all { result ≡ Served.All → ServedAll E.calls (record { kept = «module».old; gained = K.gained replies.old })
         frames.old piece.now frames.new (record { kept = «module».new; gained = K.gained replies.new }) }
-    ensures fault { (place : ℕ) → result ≡ Served.BadFrame place → ServedToFault (record { kept = «module».old; gained = K.gained replies.old })
+    ensures fault { (place : ℕ) → result ≡ Served.BadFrame place → ServedToFault E.calls (record { kept = «module».old; gained = K.gained replies.old })
         frames.old piece.now place (record { kept = «module».new; gained = K.gained replies.new }) }
-    ensures write_fault { result ≡ Served.WriteFault → CutShort (record { kept = «module».old; gained = K.gained replies.old })
+    ensures write_fault { result ≡ Served.WriteFault → CutShort E.calls (record { kept = «module».old; gained = K.gained replies.old })
         frames.old.bytes piece.now (record { kept = «module».new; gained = K.gained replies.new }) }
     ensures rose { result ≡ Served.WriteFault → Rose (K.faults replies.old) (K.faults replies.new) }
     ensures steady { result ≢ Served.WriteFault → K.faults replies.new ≡ K.faults replies.old }

@@ -8,6 +8,7 @@ ghost use Rattle.module_top.specs.Serving.{Serves};
 ghost use Rattle.module_top.specs.Program.{serve_words, exit_status, IsProgramOutput};
 
 use crate::serving::{Ended, serve};
+use engine_core::Engine;
 use module_frames::{Frames, Reply};
 use outside::{Sink, Source};
 use state_model::Module;
@@ -33,12 +34,13 @@ fn is_serve(words: &[String]) -> bool
 }
 
 // Takes all the memory, and then serves. Without memory nothing is read or written.
-fn open_and_serve<S: Source, K: Sink>(
+fn open_and_serve<E: Engine, S: Source, K: Sink>(
     alloc: Global,
+    engine: E,
     commands: &mut S,
     replies: &mut K,
 ) -> Result<Ended, AllocError>
-    ensures served { IfOk result (λ how. (m : Kept) × Serves how initial_state m
+    ensures served { IfOk result (λ how. (m : Kept E) × Serves E.calls how (initial_state engine) m
         (record { left = S.left commands.old; gained = K.gained replies.old })
         (record { left = S.left commands.new; gained = K.gained replies.new })) }
     ensures untouched { OnErr result ((commands.new ≡ commands.old) × (replies.new ≡ replies.old)) }
@@ -47,7 +49,7 @@ fn open_and_serve<S: Source, K: Sink>(
     ensures write_fault { IfOk result (λ how. how ≡ Ended.WriteFault → Rose (K.faults replies.old) (K.faults replies.new)) }
     ensures writes_steady { IfOk result (λ how. how ≢ Ended.WriteFault → K.faults replies.new ≡ K.faults replies.old) }
 {
-    let mut module = Module::open(alloc)?;
+    let mut module = Module::open(alloc, engine)?;
     let mut frames = Frames::new(alloc)?;
     let mut reply = Reply::new(alloc)?;
     let mut chunk = vec![in alloc; 0; CHUNK]?;
@@ -74,20 +76,21 @@ fn exit_status(ended: Ended) -> u8
     }
 }
 
-/// Runs the program on the words after its name, and answers its exit status.
+/// Runs the program on the words after its name, with an engine, and answers its exit status.
 ///
 /// The words are `serve` alone: commands come from the source, and their replies go to the sink.
-pub fn run<S: Source, K: Sink>(
+pub fn run<E: Engine, S: Source, K: Sink>(
     alloc: Global,
     words: &[String],
     commands: &mut S,
     replies: &mut K,
+    engine: E,
 ) -> u8
     // Where no call fails and memory was found, status and written bytes are those of the definition, however the source hands
     // out its bytes.
     ensures output { (bytes before : List ℕ) → S.left commands.old ≡ Some bytes → K.gained replies.old ≡ Some before →
         result ≢ 5 → result ≢ 6 → result ≢ 7 →
-        (out : List ℕ) × IsProgramOutput (map string_bytes words.now) bytes result out × (K.gained replies.new ≡ Some (before ++ out)) }
+        (out : List ℕ) × IsProgramOutput E.calls engine (map string_bytes words.now) bytes result out × (K.gained replies.new ≡ Some (before ++ out)) }
 
     // Any words but `serve` alone are a faulty command line.
     ensures usage { (result ≡ 2) ↔ (map string_bytes words.now ≢ serve_words) }
@@ -96,7 +99,7 @@ pub fn run<S: Source, K: Sink>(
     ensures untouched { (result ≡ 2) ⊎ (result ≡ 7) → (commands.new ≡ commands.old) × (replies.new ≡ replies.old) }
 
     // Else the run over the bytes taken was done: all of it was answered, or up to a failed write a part of it.
-    ensures served { result ≢ 2 → result ≢ 7 → (how : Ended) × (result ≡ exit_status how) × (m : Kept) × Serves how initial_state m
+    ensures served { result ≢ 2 → result ≢ 7 → (how : Ended) × (result ≡ exit_status how) × (m : Kept E) × Serves E.calls how (initial_state engine) m
         (record { left = S.left commands.old; gained = K.gained replies.old })
         (record { left = S.left commands.new; gained = K.gained replies.new }) }
 
@@ -109,7 +112,7 @@ pub fn run<S: Source, K: Sink>(
     if !is_serve(words) {
         return 2;
     }
-    match open_and_serve(alloc, commands, replies) {
+    match open_and_serve(alloc, engine, commands, replies) {
         Ok(ended) => exit_status(ended),
         Err(_) => 7,
     }

@@ -10,6 +10,7 @@ ghost use Rattle.module_top.specs.Run.{ending_of};
 ghost use Rattle.module_top.specs.Serving.{Serves};
 
 use crate::answering::{Served, serve_piece};
+use engine_core::Engine;
 use module_frames::{Frames, Reply};
 use outside::{Failed, Sink, Source};
 use state_model::Module;
@@ -51,8 +52,8 @@ fn read_some<S: Source>(commands: &mut S, chunk: &mut [u8], most: u64) -> Result
 }
 
 // Serves a stream, and leaves what it worked with as it is then.
-fn serve_stream<S: Source, K: Sink>(
-    module: &mut Module,
+fn serve_stream<E: Engine, S: Source, K: Sink>(
+    module: &mut Module<E>,
     commands: &mut S,
     replies: &mut K,
     frames: &mut Frames,
@@ -61,7 +62,7 @@ fn serve_stream<S: Source, K: Sink>(
 ) -> Ended
     requires new { frames.old ≡ new_fragment }
     requires chunk { 0 < length chunk.old }
-    ensures served { (s : MachineState) → Represents «module».old s → Serves result s «module».new
+    ensures served { (s : MachineState E) → Represents «module».old s → Serves E.calls result s «module».new
         (record { left = S.left commands.old; gained = K.gained replies.old })
         (record { left = S.left commands.new; gained = K.gained replies.new }) }
     ensures read_fault { result ≡ Ended.ReadFault → Rose (S.faults commands.old) (S.faults commands.new) }
@@ -104,8 +105,8 @@ fn end_of(frames: &Frames) -> Ended
 /// both. `frames` is new and the chunk isn't empty. As it returns, frames, reply and chunk are zero.
 ///
 /// No more than 2^40 bytes are asked for. Where a call on the source or the sink failed, the answer is that object's.
-pub fn serve<S: Source, K: Sink>(
-    module: &mut Module,
+pub fn serve<E: Engine, S: Source, K: Sink>(
+    module: &mut Module<E>,
     commands: &mut S,
     replies: &mut K,
     frames: &mut Frames,
@@ -114,7 +115,7 @@ pub fn serve<S: Source, K: Sink>(
 ) -> Ended
     requires new { frames.old ≡ new_fragment }
     requires chunk { 0 < length chunk.old }
-    ensures served { (s : MachineState) → Represents «module».old s → Serves result s «module».new
+    ensures served { (s : MachineState E) → Represents «module».old s → Serves E.calls result s «module».new
         (record { left = S.left commands.old; gained = K.gained replies.old })
         (record { left = S.left commands.new; gained = K.gained replies.new }) }
 

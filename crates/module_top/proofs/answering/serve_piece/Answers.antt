@@ -9,7 +9,7 @@ use Rattle.module_top.proofs.answering.serve_piece.Goals as goal
 pub loop-done-init : goal.loop-done-init
 loop-done-init g c = record {
   within = omega arith;
-  served = served_none _ _;
+  served = served_none g.E.Engine.calls _ _;
   partial = c.requires.partial;
   sound = c.requires.sound;
   place = omega arith;
@@ -20,37 +20,37 @@ pub returns-in-More-clause-all : goal.returns-in-More-clause-all
 returns-in-More-clause-all g c _ =
     let i = c.loop-done.invariant in
     let took = rw (take_rest c.args.piece.now c.loop-done.done) at (c.in-More.ensures.before_fault i.sound) in
-    let way : Underway (record { kept = c.args.module.now; gained = g.K.Sink.gained c.args.replies.now }) c.args.frames.now c.args.piece.now c.loop-done.done c.loop-done.frames
+    let way : Underway g.E.Engine.calls (record { kept = c.args.module.now; gained = g.K.Sink.gained c.args.replies.now }) c.args.frames.now c.args.piece.now c.loop-done.done c.loop-done.frames
     (record { kept = c.loop-done.module; gained = g.K.Sink.gained c.loop-done.replies }) =
     record { within = i.within; served = i.served; partial = i.partial; sound = i.sound; place = i.place } in
-    all_served way took
+    all_served g.E.Engine.calls way took
 
 pub returns-in-BadFrame-clause-fault : goal.returns-in-BadFrame-clause-fault
 returns-in-BadFrame-clause-fault g c place is =
     let i = c.loop-done.invariant in
     let took = rw (take_rest c.args.piece.now c.loop-done.done) at (c.in-BadFrame.ensures.before_fault i.sound) in
-    let way : Underway (record { kept = c.args.module.now; gained = g.K.Sink.gained c.args.replies.now }) c.args.frames.now c.args.piece.now c.loop-done.done c.loop-done.frames
+    let way : Underway g.E.Engine.calls (record { kept = c.args.module.now; gained = g.K.Sink.gained c.args.replies.now }) c.args.frames.now c.args.piece.now c.loop-done.done c.loop-done.frames
     (record { kept = c.loop-done.module; gained = g.K.Sink.gained c.loop-done.replies }) =
     record { within = i.within; served = i.served; partial = i.partial; sound = i.sound; place = i.place } in
     let same : c.in-BadFrame.place ≡ place = cc in
     subst (λ p. ServedToFault (record { kept = c.args.module.now; gained = g.K.Sink.gained c.args.replies.now }) c.args.frames.now c.args.piece.now p
-    (record { kept = c.loop-done.module; gained = g.K.Sink.gained c.loop-done.replies })) same (fault_served {new = c.feed.new.self} way took)
+    (record { kept = c.loop-done.module; gained = g.K.Sink.gained c.loop-done.replies })) same (fault_served g.E.Engine.calls {new = c.feed.new.self} way took)
 
 pub returns-in-Err-clause-write_fault : goal.returns-in-Err-clause-write_fault
 returns-in-Err-clause-write_fault g c _ =
     let i = c.loop-done.invariant in
     let took = rw (take_rest c.args.piece.now c.loop-done.done) at (c.in-Whole.ensures.before_fault i.sound) in
-    let way : Underway (record { kept = c.args.module.now; gained = g.K.Sink.gained c.args.replies.now }) c.args.frames.now c.args.piece.now c.loop-done.done c.loop-done.frames
+    let way : Underway g.E.Engine.calls (record { kept = c.args.module.now; gained = g.K.Sink.gained c.args.replies.now }) c.args.frames.now c.args.piece.now c.loop-done.done c.loop-done.frames
     (record { kept = c.loop-done.module; gained = g.K.Sink.gained c.loop-done.replies }) =
     record { within = i.within; served = i.served; partial = i.partial; sound = i.sound; place = i.place } in
-    command_cut {next = record { kept = c.answer.new.module; gained = g.K.Sink.gained c.answer.new.replies }} {new = c.feed.new.self} {command = c.command.result.now}
+    command_cut g.E.Engine.calls {next = record { kept = c.answer.new.module; gained = g.K.Sink.gained c.answer.new.replies }} {new = c.feed.new.self} {command = c.command.result.now}
     way took c.command.ensures c.in-Err.ensures.step c.in-Err.ensures.part
 
 pub loop-done-preserved : goal.loop-done-preserved
 loop-done-preserved g c =
     let i = c.loop-done.invariant in
     let took = rw (take_rest c.args.piece.now c.loop-done.done) at (c.in-Whole.ensures.before_fault i.sound) in
-    let way : Underway (record { kept = c.args.module.now; gained = g.K.Sink.gained c.args.replies.now }) c.args.frames.now c.args.piece.now c.loop-done.done c.loop-done.frames
+    let way : Underway g.E.Engine.calls (record { kept = c.args.module.now; gained = g.K.Sink.gained c.args.replies.now }) c.args.frames.now c.args.piece.now c.loop-done.done c.loop-done.frames
     (record { kept = c.loop-done.module; gained = g.K.Sink.gained c.loop-done.replies }) =
     record { within = i.within; served = i.served; partial = i.partial; sound = i.sound; place = i.place } in
     let bytes : c.feed.new.self.bytes ≡ c.loop-done.frames.bytes ++ take c.in-Whole.count (drop c.loop-done.done c.args.piece.now) = ap (λ (f : Fragment). f.bytes) took.1 in
@@ -59,7 +59,7 @@ loop-done-preserved g c =
     let moved : c.clear.new.self.offset ≡ c.feed.new.self.offset + length c.feed.new.self.bytes = ap (λ (f : Fragment). f.offset) c.clear.ensures.cleared in
     record {
       within = omega (arith, took.0, length-drop c.loop-done.done c.args.piece.now);
-      served = rw none (command_served {next = record { kept = c.answer.new.module; gained = g.K.Sink.gained c.answer.new.replies }} {new = c.feed.new.self} {command = c.command.result.now}
+      served = rw none (command_served g.E.Engine.calls {next = record { kept = c.answer.new.module; gained = g.K.Sink.gained c.answer.new.replies }} {new = c.feed.new.self} {command = c.command.result.now}
           way took c.command.ensures c.in-Ok.ensures.step c.in-Ok.ensures.whole);
       partial = c.clear.ensures.partial;
       sound = ap (λ (f : Fragment). f.fault) c.clear.ensures.cleared ∙ ap (λ (f : Fragment). f.fault) took.1 ∙ i.sound;

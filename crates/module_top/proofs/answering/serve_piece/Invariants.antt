@@ -6,7 +6,7 @@ use Rattle.module_top.proofs.answering.serve_piece.Given as goal
 abbrev pub invariant-loop-done : goal.invariant-loop-done
 invariant-loop-done g l = record {
   within : l.done ≤ length l.piece;
-  served : Served (record { kept = l.fn.module; gained = g.K.Sink.gained l.fn.replies }) l.fn.frames.bytes (take l.done l.piece)
+  served : Served g.E.Engine.calls (record { kept = l.fn.module; gained = g.K.Sink.gained l.fn.replies }) l.fn.frames.bytes (take l.done l.piece)
       l.frames.bytes (record { kept = l.module; gained = g.K.Sink.gained l.replies });
   partial : IsPartial l.frames.bytes;
   sound : l.frames.fault ≡ None;

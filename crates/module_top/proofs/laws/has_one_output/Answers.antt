@@ -2,4 +2,4 @@ use Rattle.module_top.proofs.OneOutput.{one_output}
 use Rattle.module_top.proofs.laws.has_one_output.Goals as goal
 
 pub returns : goal.returns
-returns c = one_output
+returns c calls = one_output calls

@@ -10,7 +10,7 @@ returns-in-Ok-clause-output g c bytes before told gained =
     let is = c.is_serve.ensures.0 c.if-not-is_serve.false in
     let served = rw (told, gained) at c.in-Ok.ensures.served.1 in
     rw c.exit_status.ensures
-    (λ no_read no_write _. output_of (map string_bytes c.args.words.now) c.in-Ok.ended c.in-Ok.ensures.served.0 bytes before _ is served no_read no_write)
+    (λ no_read no_write _. output_of g.E.Engine.calls c.args.engine (map string_bytes c.args.words.now) c.in-Ok.ended c.in-Ok.ensures.served.0 bytes before _ is served no_read no_write)
 
 pub returns-in-Ok-clause-served : goal.returns-in-Ok-clause-served
 returns-in-Ok-clause-served g c no_usage no_memory = (c.in-Ok.ended, c.exit_status.ensures, c.in-Ok.ensures.served.0, c.in-Ok.ensures.served.1)

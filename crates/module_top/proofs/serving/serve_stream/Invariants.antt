@@ -7,7 +7,7 @@ use Rattle.module_top.proofs.serving.serve_stream.Given as goal
 abbrev pub invariant-loop-taken : goal.invariant-loop-taken
 invariant-loop-taken g l = record {
   served : (took : List ℕ) × Takes (g.S.Source.left l.fn.commands) took (g.S.Source.left l.commands) × (length took ≡ l.taken)
-      × Served (record { kept = l.fn.module; gained = g.K.Sink.gained l.fn.replies }) [] took
+      × Served g.E.Engine.calls (record { kept = l.fn.module; gained = g.K.Sink.gained l.fn.replies }) [] took
       l.frames.bytes (record { kept = l.module; gained = g.K.Sink.gained l.replies });
   partial : IsPartial l.frames.bytes;
   sound : l.frames.fault ≡ None;
