@@ -15,17 +15,18 @@ pub fn hash<E: Engine>(
     parts: &mut Parts<E>,
     alg: Alg,
     text: &[u8],
-    mut port: Port<'_, Enabled>,
+    port: &mut Port<'_, Enabled>,
 ) -> Outcome
-    requires empty { port.outbox.now.bytes ≡ [] }
-    requires room { 65664 ≤ port.outbox.now.room }
-    ensures serves { Serves (hash_served E.calls (core_of parts.old) alg text.now) parts.new result port.exit.0.now.bytes }
-    ensures room { port.exit.0.now.room ≡ port.entry.outbox.now.room }
+    requires empty { port.old.outbox.now.bytes ≡ [] }
+    requires room { 65664 ≤ port.old.outbox.now.room }
+    ensures serves { Serves (hash_served E.calls (core_of parts.old) alg text.now) parts.new result port.new.outbox.now.bytes }
+    ensures same { port.new.outbox.ghost_name ≡ port.old.outbox.ghost_name }
+    ensures room { port.new.outbox.now.room ≡ port.old.outbox.now.room }
     ensures well_formed { AreWellFormed parts.old.vault.slots → AreWellFormed parts.new.vault.slots }
 {
     let mut out = [0; 64];
     parts.engine.hash(alg, text, &mut out);
-    put_leftmost(&mut port, &out, alg.size());
+    put_leftmost(port, &out, alg.size());
     wipe(&mut out);
     Outcome {
         status: Status::Ok,

@@ -22,14 +22,15 @@ pub fn mac<E: Engine>(
     alg: Alg,
     mac_length: usize,
     text: &[u8],
-    mut port: Port<'_, Enabled>,
+    port: &mut Port<'_, Enabled>,
 ) -> Outcome
     requires least { 1 ≤ mac_length }
     requires most { mac_length ≤ alg_size alg }
-    requires empty { port.outbox.now.bytes ≡ [] }
-    requires room { 65664 ≤ port.outbox.now.room }
-    ensures serves { Serves (mac_served E.calls (core_of parts.old) slot alg mac_length text.now) parts.new result port.exit.0.now.bytes }
-    ensures room { port.exit.0.now.room ≡ port.entry.outbox.now.room }
+    requires empty { port.old.outbox.now.bytes ≡ [] }
+    requires room { 65664 ≤ port.old.outbox.now.room }
+    ensures serves { Serves (mac_served E.calls (core_of parts.old) slot alg mac_length text.now) parts.new result port.new.outbox.now.bytes }
+    ensures same { port.new.outbox.ghost_name ≡ port.old.outbox.ghost_name }
+    ensures room { port.new.outbox.now.room ≡ port.old.outbox.now.room }
     ensures well_formed { AreWellFormed parts.new.vault.slots }
 {
     let is_approved = approved(Service::Mac, mac_length);
@@ -39,7 +40,7 @@ pub fn mac<E: Engine>(
     }
     let mut out = [0; 64];
     parts.engine.mac(alg, parts.vault.bytes(slot), text, &mut out);
-    put_leftmost(&mut port, &out, mac_length);
+    put_leftmost(port, &out, mac_length);
     wipe(&mut out);
     Outcome {
         status: Status::Ok,
@@ -56,13 +57,14 @@ pub fn mac_verify<E: Engine>(
     alg: Alg,
     tag: &[u8],
     text: &[u8],
-    port: Port<'_, Inhibited>,
+    port: &mut Port<'_, Inhibited>,
 ) -> Outcome
     requires least { 1 ≤ length tag.now }
     requires most { length tag.now ≤ alg_size alg }
-    requires empty { port.outbox.now.bytes ≡ [] }
-    ensures serves { Serves (mac_verify_served E.calls (core_of parts.old) slot alg tag.now text.now) parts.new result port.exit.0.now.bytes }
-    ensures room { port.exit.0.now.room ≡ port.entry.outbox.now.room }
+    requires empty { port.old.outbox.now.bytes ≡ [] }
+    ensures serves { Serves (mac_verify_served E.calls (core_of parts.old) slot alg tag.now text.now) parts.new result port.new.outbox.now.bytes }
+    ensures same { port.new.outbox.ghost_name ≡ port.old.outbox.ghost_name }
+    ensures room { port.new.outbox.now.room ≡ port.old.outbox.now.room }
     ensures well_formed { AreWellFormed parts.new.vault.slots }
 {
     let is_approved = approved(Service::MacVerify, tag.len());
