@@ -20,6 +20,7 @@ use Rattle.bits_core.specs.declared.parameter.Domain.{Domain}
 use Rattle.bits_core.specs.Parameters.{kind_of, domain_of, length_fits}
 use Rattle.module_frames.specs.PublicState.{no_block}
 use Rattle.module_frames.proofs.Zeros.{rest_zero, put_keeps_length}
+use Rattle.engine_core.specs.Calls.{Calls}
 use Rattle.state_model.specs.declared.entry.Entry.{Entry}
 use Rattle.state_model.specs.declared.entry.Target.{Target}
 use Rattle.state_model.specs.Entries.{with_piece, entry_length, IsEntered, IsUnderway}
@@ -85,10 +86,10 @@ role_is_of_use role other approved officer user =
     let outer : (none : Bool) → P none = λ none. elim none as P [ true ↦ approved | false ↦ inner (role == 1) ] in
     outer (role == 0)
 
-pub power_on_kept : (s : MachineState) (period : ℕ) → IsWellFormed s → s.state ≡ state.Off → period ≤ 1000000 → IsWellFormed (power_on s period)
+pub power_on_kept : {V : Type 0} (s : MachineState V) (period : ℕ) → IsWellFormed s → s.state ≡ state.Off → period ≤ 1000000 → IsWellFormed (power_on s period)
 power_on_kept s period rules off small = record { period = small; testing = λ e. cc; settled = λ _. rules.settled (λ e. cc); slots = rules.slots; entering = λ e. cc; wiped = λ _. rules.wiped (λ e. cc) }
 
-pub request_tests_kept : (s : MachineState) → IsWellFormed s → is_permitted service.RequestTests s.state ≡ true → IsWellFormed (request_tests s)
+pub request_tests_kept : {V : Type 0} (s : MachineState V) → IsWellFormed s → is_permitted service.RequestTests s.state ≡ true → IsWellFormed (request_tests s)
 request_tests_kept s rules allowed = record {
   period = rules.period;
   testing = λ _. (return_for_request_tests s.state allowed, omega arith);
@@ -98,7 +99,7 @@ request_tests_kept s rules allowed = record {
   wiped = λ _. rules.wiped (not_entering_for_request_tests s.state allowed);
 }
 
-test_step_goes_on : (s : MachineState) (more : Bool) → nat_lt s.step 2 ≡ more → IsWellFormed s → s.state ≡ state.SelfTest
+test_step_goes_on : {V : Type 0} (s : MachineState V) (more : Bool) → nat_lt s.step 2 ≡ more → IsWellFormed s → s.state ≡ state.SelfTest
     → IsWellFormed (if more then record s { step = s.step + 1 } else record s { state = s.back; back = state.Off; step = 0 })
 test_step_goes_on s true more rules testing = record {
   period = rules.period;
@@ -117,10 +118,10 @@ test_step_goes_on s false more rules testing = record {
   wiped = λ _. rules.wiped (λ e. cc);
 }
 
-pub test_step_kept : (s : MachineState) → IsWellFormed s → s.state ≡ state.SelfTest → IsWellFormed (test_step s)
+pub test_step_kept : {V : Type 0} (s : MachineState V) → IsWellFormed s → s.state ≡ state.SelfTest → IsWellFormed (test_step s)
 test_step_kept s rules testing = test_step_goes_on s (nat_lt s.step 2) refl rules testing
 
-pub select_role_kept : (s : MachineState) (role : ℕ) → IsWellFormed s → is_permitted service.SelectRole s.state ≡ true → IsWellFormed (select_role s role)
+pub select_role_kept : {V : Type 0} (s : MachineState V) (role : ℕ) → IsWellFormed s → is_permitted service.SelectRole s.state ≡ true → IsWellFormed (select_role s role)
 select_role_kept s role rules allowed = record {
   period = rules.period;
   testing = λ e. absurd (role_is_of_use role state.SelfTest (λ h. cc) (λ h. cc) (λ h. cc) e);
@@ -130,17 +131,17 @@ select_role_kept s role rules allowed = record {
   wiped = λ _. rules.wiped (not_entering_for_select_role s.state allowed);
 }
 
-pub reset_kept : (s : MachineState) → IsWellFormed s → IsWellFormed (reset s)
+pub reset_kept : {V : Type 0} (s : MachineState V) → IsWellFormed s → IsWellFormed (reset s)
 reset_kept s rules = record { period = rules.period; testing = λ e. cc; settled = λ _. (refl, refl); slots = AreWellFormed-empty; entering = λ e. cc; wiped = λ _. refl }
 
-pub zeroise_kept : (s : MachineState) (slot : ℕ) → IsWellFormed s → IsWellFormed (zeroise s slot)
+pub zeroise_kept : {V : Type 0} (s : MachineState V) (slot : ℕ) → IsWellFormed s → IsWellFormed (zeroise s slot)
 zeroise_kept s slot rules =
-    record { period = rules.period; testing = rules.testing; settled = rules.settled; slots = AreWellFormed-set s.vault.slots slot empty_slot rules.slots refl; entering = rules.entering; wiped = rules.wiped }
+    record { period = rules.period; testing = rules.testing; settled = rules.settled; slots = AreWellFormed-set s.core.vault.slots slot empty_slot rules.slots refl; entering = rules.entering; wiped = rules.wiped }
 
-pub zeroise_all_kept : (s : MachineState) → IsWellFormed s → IsWellFormed (zeroise_all s)
+pub zeroise_all_kept : {V : Type 0} (s : MachineState V) → IsWellFormed s → IsWellFormed (zeroise_all s)
 zeroise_all_kept s rules = record { period = rules.period; testing = rules.testing; settled = rules.settled; slots = AreWellFormed-empty; entering = rules.entering; wiped = rules.wiped }
 
-pub entry_begin_kept : (s : MachineState) (target : Target) → IsWellFormed s → s.state ≡ state.Officer → target.slot < 16
+pub entry_begin_kept : {V : Type 0} (s : MachineState V) (target : Target) → IsWellFormed s → s.state ≡ state.Officer → target.slot < 16
     → 1 ≤ target.header.uses → IsTrue (length_fits target.header.kind target.header.domain target.length) → IsWellFormed (entry_begin s target)
 entry_begin_kept s target rules officer slot uses fits = record {
   period = rules.period;
@@ -169,7 +170,7 @@ underway_with_piece entry piece underway fits = underway_for entry.target underw
           rest = rest_zero entry.bytes piece entry.filled 64 (omega (arith, entered.within, small, entered.room)) entered.rest;
         }
 
-pub entry_bytes_kept : (s : MachineState) (piece : List ℕ) → IsWellFormed s → s.state ≡ state.Entry → s.entry.filled + length piece ≤ entry_length s.entry
+pub entry_bytes_kept : {V : Type 0} (s : MachineState V) (piece : List ℕ) → IsWellFormed s → s.state ≡ state.Entry → s.entry.filled + length piece ≤ entry_length s.entry
     → IsWellFormed (record s { entry = with_piece s.entry piece })
 entry_bytes_kept s piece rules entering fits = record {
   period = rules.period;
@@ -180,7 +181,7 @@ entry_bytes_kept s piece rules entering fits = record {
   wiped = λ other. absurd (other entering);
 }
 
-pub entry_abort_kept : (s : MachineState) → IsWellFormed s → s.state ≡ state.Entry → IsWellFormed (entry_abort s)
+pub entry_abort_kept : {V : Type 0} (s : MachineState V) → IsWellFormed s → s.state ≡ state.Entry → IsWellFormed (entry_abort s)
 entry_abort_kept s rules entering = record {
   period = rules.period;
   testing = λ e. cc;
@@ -199,7 +200,7 @@ underway_within entry underway = within_for entry.target underway
     within_for (Some target) entered = entered.within
 
 -- a piece that doesn't pass the length is appended
-pub entry_bytes_fits : (s : MachineState) (piece : List ℕ) → s.entry.filled + length piece ≤ entry_length s.entry
+pub entry_bytes_fits : {V : Type 0} (s : MachineState V) (piece : List ℕ) → s.entry.filled + length piece ≤ entry_length s.entry
     → done (record s { entry = with_piece s.entry piece }) no_block ≡ entry_bytes s piece
 entry_bytes_fits s piece fits = chosen (nat_le (s.entry.filled + length piece) (entry_length s.entry)) refl
   where
@@ -209,7 +210,7 @@ entry_bytes_fits s piece fits = chosen (nat_le (s.entry.filled + length piece) (
     chosen false h = absurd (grind (arith, nat_tests, h, fits))
 
 -- a piece is appended or refused
-entry_bytes_rules : (s : MachineState) (piece : List ℕ) → IsWellFormed s → s.state ≡ state.Entry → IsWellFormed (entry_bytes s piece).machine
+entry_bytes_rules : {V : Type 0} (s : MachineState V) (piece : List ℕ) → IsWellFormed s → s.state ≡ state.Entry → IsWellFormed (entry_bytes s piece).machine
 entry_bytes_rules s piece rules entering = chosen (nat_le (s.entry.filled + length piece) (entry_length s.entry)) refl
   where
     chosen : (fits : Bool) → nat_le (s.entry.filled + length piece) (entry_length s.entry) ≡ fits
@@ -218,82 +219,82 @@ entry_bytes_rules s piece rules entering = chosen (nat_le (s.entry.filled + leng
     chosen false h = rules
 
 -- a request is read only where its numbers are in range
-read_power_on_kept : (s : MachineState) (long : Bool) (period : ℕ) → IsWellFormed s → s.state ≡ state.Off
-    → IsWellFormed (asked s (if long && nat_le period 1000000 then Some (asking.PowerOn period) else None)).machine
-read_power_on_kept s false period rules off = rules
-read_power_on_kept s true period rules off =
-    let P : Bool → Type 0 = λ fits. nat_le period 1000000 ≡ fits → IsWellFormed (asked s (if fits then Some (asking.PowerOn period) else None)).machine in
+read_power_on_kept : {V : Type 0} (calls : Calls V) (s : MachineState V) (long : Bool) (period : ℕ) → IsWellFormed s → s.state ≡ state.Off
+    → IsWellFormed (asked calls s (if long && nat_le period 1000000 then Some (asking.PowerOn period) else None)).machine
+read_power_on_kept calls s false period rules off = rules
+read_power_on_kept calls s true period rules off =
+    let P : Bool → Type 0 = λ fits. nat_le period 1000000 ≡ fits → IsWellFormed (asked calls s (if fits then Some (asking.PowerOn period) else None)).machine in
     let cases : (fits : Bool) → P fits = λ fits. elim fits as P [ true ↦ λ h. power_on_kept s period rules off (grind (arith, nat_tests, h)) | false ↦ λ h. rules ] in
     cases (nat_le period 1000000) refl
 
-read_kept : (s : MachineState) (good : Bool) (what : Asked) → IsWellFormed s → IsWellFormed (asked s (Some what)).machine
-    → IsWellFormed (asked s (if good then Some what else None)).machine
-read_kept s true what rules done = done
-read_kept s false what rules done = rules
+read_kept : {V : Type 0} (calls : Calls V) (s : MachineState V) (good : Bool) (what : Asked) → IsWellFormed s → IsWellFormed (asked calls s (Some what)).machine
+    → IsWellFormed (asked calls s (if good then Some what else None)).machine
+read_kept calls s true what rules done = done
+read_kept calls s false what rules done = rules
 
-slot_kept : (s : MachineState) (what : ℕ → Asked) (slot : Option ℕ) → IsWellFormed s → ((n : ℕ) → IsWellFormed (asked s (Some (what n))).machine)
-    → IsWellFormed (asked s (option_map what slot)).machine
-slot_kept s what None rules done = rules
-slot_kept s what (Some slot) rules done = done slot
+slot_kept : {V : Type 0} (calls : Calls V) (s : MachineState V) (what : ℕ → Asked) (slot : Option ℕ) → IsWellFormed s → ((n : ℕ) → IsWellFormed (asked calls s (Some (what n))).machine)
+    → IsWellFormed (asked calls s (option_map what slot)).machine
+slot_kept calls s what None rules done = rules
+slot_kept calls s what (Some slot) rules done = done slot
 
 -- what the test of an entry's numbers says
 entry_tests : (slot export uses : ℕ) (fits : Bool) → (nat_lt slot 16 && (nat_le export 1 && (nat_le 1 uses && fits))) ≡ true → (slot < 16) × (1 ≤ uses) × (fits ≡ true)
 entry_tests slot export uses true h = (grind (arith, nat_tests), grind (arith, nat_tests), refl)
 entry_tests slot export uses false h = absurd (grind (arith, nat_tests))
 
-entry_kept : (s : MachineState) (slot : ℕ) (kind : Option Kind) (domain : Option Domain) (export uses long : ℕ) → IsWellFormed s → s.state ≡ state.Officer
-    → IsWellFormed (asked s (entry_of slot kind domain export uses long)).machine
-entry_kept s slot None domain export uses long rules officer = rules
-entry_kept s slot (Some kind) None export uses long rules officer = rules
-entry_kept s slot (Some kind) (Some domain) export uses long rules officer = chosen (nat_lt slot 16 && (nat_le export 1 && (nat_le 1 uses && length_fits kind domain long))) refl
+entry_kept : {V : Type 0} (calls : Calls V) (s : MachineState V) (slot : ℕ) (kind : Option Kind) (domain : Option Domain) (export uses long : ℕ) → IsWellFormed s → s.state ≡ state.Officer
+    → IsWellFormed (asked calls s (entry_of slot kind domain export uses long)).machine
+entry_kept calls s slot None domain export uses long rules officer = rules
+entry_kept calls s slot (Some kind) None export uses long rules officer = rules
+entry_kept calls s slot (Some kind) (Some domain) export uses long rules officer = chosen (nat_lt slot 16 && (nat_le export 1 && (nat_le 1 uses && length_fits kind domain long))) refl
   where
     chosen : (good : Bool) → (nat_lt slot 16 && (nat_le export 1 && (nat_le 1 uses && length_fits kind domain long))) ≡ good
-        → IsWellFormed (asked s (if good then Some (asking.EntryBegin slot (record { kind = kind; domain = domain; export = export == 1; uses = uses }) long) else None)).machine
+        → IsWellFormed (asked calls s (if good then Some (asking.EntryBegin slot (record { kind = kind; domain = domain; export = export == 1; uses = uses }) long) else None)).machine
     chosen true h =
         let tests = entry_tests slot export uses (length_fits kind domain long) h in
         entry_begin_kept s (record { slot = slot; header = record { kind = kind; domain = domain; export = export == 1; uses = uses }; length = long }) rules officer tests.0 tests.1 tests.2
     chosen false h = rules
 
-begin_kept : (s : MachineState) (body : List ℕ) → IsWellFormed s → s.state ≡ state.Officer → IsWellFormed (asked s (entry_begin_of body)).machine
-begin_kept s body rules officer = chosen (length body == 9)
+begin_kept : {V : Type 0} (calls : Calls V) (s : MachineState V) (body : List ℕ) → IsWellFormed s → s.state ≡ state.Officer → IsWellFormed (asked calls s (entry_begin_of body)).machine
+begin_kept calls s body rules officer = chosen (length body == 9)
   where
     found : Option Asked
     found = begin_of (slice_index body 0) (slice_index body 1) (slice_index body 2) (slice_index body 3)
         (from_be_bytes w32 (slice_index body 4 ∷ slice_index body 5 ∷ slice_index body 6 ∷ slice_index body 7 ∷ [])) (slice_index body 8)
 
-    chosen : (whole : Bool) → IsWellFormed (asked s (if whole then found else None)).machine
-    chosen true = entry_kept s (slice_index body 0) (kind_of (slice_index body 1)) (domain_of (slice_index body 2)) (slice_index body 3) _ (slice_index body 8) rules officer
+    chosen : (whole : Bool) → IsWellFormed (asked calls s (if whole then found else None)).machine
+    chosen true = entry_kept calls s (slice_index body 0) (kind_of (slice_index body 1)) (domain_of (slice_index body 2)) (slice_index body 3) _ (slice_index body 8) rules officer
     chosen false = rules
 
-asked_kept : (s : MachineState) (found : Service) (body : List ℕ) → IsWellFormed s → is_permitted found s.state ≡ true
-    → IsWellFormed (asked s (request_of found body)).machine
-asked_kept s service.PowerOn body rules allowed = read_power_on_kept s (length body == 4) (from_be_bytes w32 body) rules (off_for_power_on s.state allowed)
-asked_kept s service.TestStep body rules allowed = read_kept s (length body == 0) asking.TestStep rules (test_step_kept s rules (testing_for_test_step s.state allowed))
-asked_kept s service.RequestTests body rules allowed = read_kept s (length body == 0) asking.RequestTests rules (request_tests_kept s rules allowed)
-asked_kept s service.ShowStatus body rules allowed = read_kept s (length body == 0) asking.ShowStatus rules rules
-asked_kept s service.ShowVersion body rules allowed = read_kept s (length body == 0) asking.ShowVersion rules rules
-asked_kept s service.SelectRole body rules allowed =
-    read_kept s (length body == 1 && nat_le (slice_index body 0) 2) (asking.SelectRole (slice_index body 0)) rules
+asked_kept : {V : Type 0} (calls : Calls V) (s : MachineState V) (found : Service) (body : List ℕ) → IsWellFormed s → is_permitted found s.state ≡ true
+    → IsWellFormed (asked calls s (request_of found body)).machine
+asked_kept calls s service.PowerOn body rules allowed = read_power_on_kept calls s (length body == 4) (from_be_bytes w32 body) rules (off_for_power_on s.state allowed)
+asked_kept calls s service.TestStep body rules allowed = read_kept calls s (length body == 0) asking.TestStep rules (test_step_kept s rules (testing_for_test_step s.state allowed))
+asked_kept calls s service.RequestTests body rules allowed = read_kept calls s (length body == 0) asking.RequestTests rules (request_tests_kept s rules allowed)
+asked_kept calls s service.ShowStatus body rules allowed = read_kept calls s (length body == 0) asking.ShowStatus rules rules
+asked_kept calls s service.ShowVersion body rules allowed = read_kept calls s (length body == 0) asking.ShowVersion rules rules
+asked_kept calls s service.SelectRole body rules allowed =
+    read_kept calls s (length body == 1 && nat_le (slice_index body 0) 2) (asking.SelectRole (slice_index body 0)) rules
     (select_role_kept s (slice_index body 0) rules allowed)
-asked_kept s service.Reset body rules allowed = read_kept s (length body == 0) asking.Reset rules (reset_kept s rules)
-asked_kept s service.EntryBegin body rules allowed = begin_kept s body rules (officer_for_entry_begin s.state allowed)
-asked_kept s service.EntryBytes body rules allowed =
-    read_kept s (nat_le 1 (length body) && nat_le (length body) 64) (asking.EntryBytes body) rules (entry_bytes_rules s body rules (entering_for_entry_bytes s.state allowed))
-asked_kept s service.EntryAbort body rules allowed =
-    read_kept s (length body == 0) asking.EntryAbort rules (entry_abort_kept s rules (entering_for_entry_abort s.state allowed))
-asked_kept s service.Zeroise body rules allowed = slot_kept s (λ slot. asking.Zeroise slot) (slot_of body) rules (λ slot. zeroise_kept s slot rules)
-asked_kept s service.ZeroiseAll body rules allowed = read_kept s (length body == 0) asking.ZeroiseAll rules (zeroise_all_kept s rules)
-asked_kept s service.ShowSlot body rules allowed = slot_kept s (λ slot. asking.ShowSlot slot) (slot_of body) rules (λ slot. rules)
+asked_kept calls s service.Reset body rules allowed = read_kept calls s (length body == 0) asking.Reset rules (reset_kept s rules)
+asked_kept calls s service.EntryBegin body rules allowed = begin_kept calls s body rules (officer_for_entry_begin s.state allowed)
+asked_kept calls s service.EntryBytes body rules allowed =
+    read_kept calls s (nat_le 1 (length body) && nat_le (length body) 64) (asking.EntryBytes body) rules (entry_bytes_rules s body rules (entering_for_entry_bytes s.state allowed))
+asked_kept calls s service.EntryAbort body rules allowed =
+    read_kept calls s (length body == 0) asking.EntryAbort rules (entry_abort_kept s rules (entering_for_entry_abort s.state allowed))
+asked_kept calls s service.Zeroise body rules allowed = slot_kept calls s (λ slot. asking.Zeroise slot) (slot_of body) rules (λ slot. zeroise_kept s slot rules)
+asked_kept calls s service.ZeroiseAll body rules allowed = read_kept calls s (length body == 0) asking.ZeroiseAll rules (zeroise_all_kept s rules)
+asked_kept calls s service.ShowSlot body rules allowed = slot_kept calls s (λ slot. asking.ShowSlot slot) (slot_of body) rules (λ slot. rules)
 
-choice_kept : (s : MachineState) (found : Service) (allowed : Bool) (body : List ℕ) → is_permitted found s.state ≡ allowed → IsWellFormed s
-    → IsWellFormed (if allowed then asked s (request_of found body) else refused s status.NotInState).machine
-choice_kept s found true body is rules = asked_kept s found body rules is
-choice_kept s found false body is rules = rules
+choice_kept : {V : Type 0} (calls : Calls V) (s : MachineState V) (found : Service) (allowed : Bool) (body : List ℕ) → is_permitted found s.state ≡ allowed → IsWellFormed s
+    → IsWellFormed (if allowed then asked calls s (request_of found body) else refused s status.NotInState).machine
+choice_kept calls s found true body is rules = asked_kept calls s found body rules is
+choice_kept calls s found false body is rules = rules
 
-ordered_kept : (s : MachineState) (found : Option Service) (body : List ℕ) → IsWellFormed s → IsWellFormed (ordered s found body).machine
-ordered_kept s None body rules = rules
-ordered_kept s (Some found) body rules = choice_kept s found (is_permitted found s.state) body refl rules
+ordered_kept : {V : Type 0} (calls : Calls V) (s : MachineState V) (found : Option Service) (body : List ℕ) → IsWellFormed s → IsWellFormed (ordered calls s found body).machine
+ordered_kept calls s None body rules = rules
+ordered_kept calls s (Some found) body rules = choice_kept calls s found (is_permitted found s.state) body refl rules
 
 pub rules_kept : StepsKeepTheRules
 unfolding step
-rules_kept s command rules = ordered_kept s (service_numbered command.service) command.body rules
+rules_kept s command rules = ordered_kept calls s (service_numbered command.service) command.body rules
