@@ -4,7 +4,7 @@ ghost use Rattle.ssp_slots.specs.Slots.{AreWellFormed};
 ghost use Rattle.crypto_services.specs.Core.{hash_served};
 ghost use Rattle.crypto_services.specs.Serves.{core_of, Serves};
 
-use crate::macs::put_leftmost;
+use crate::leftmost::put_leftmost;
 use crate::{Outcome, Parts};
 use bits_core::{Alg, Enabled, Port, wipe};
 use engine_core::Engine;

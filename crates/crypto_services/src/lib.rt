@@ -2,9 +2,12 @@
 #![tactic(auto)]
 
 mod digests;
+mod leftmost;
 mod macs;
 mod outcome;
 mod parts;
+#[cfg(test)]
+mod tests;
 
 pub use digests::hash;
 pub use macs::{mac, mac_verify};

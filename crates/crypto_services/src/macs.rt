@@ -1,14 +1,14 @@
 // MACs under the keys of the vault.
-ghost use Rattle.std.specs.Prelude.{◌≡◌, ◌≤◌, ◌+◌, ◌++◌, ◌&&◌, [], length, take, if◌then◌else◌};
+ghost use Rattle.std.specs.Prelude.{◌≡◌, ◌≤◌, ◌&&◌, [], length, if◌then◌else◌};
 ghost use Rattle.bits_core.specs.Algorithms.{alg_size};
-ghost use Rattle.bits_core.specs.Shown.{holding};
 ghost use Rattle.ssp_slots.specs.Slots.{AreWellFormed};
-ghost use Rattle.crypto_services.specs.Core.{mac_served, mac_verify_served, is_in_approved, is_leftmost};
+ghost use Rattle.crypto_services.specs.Core.{mac_served, mac_verify_served, is_in_approved};
 ghost use Rattle.crypto_services.specs.Serves.{core_of, Serves};
 
+use crate::leftmost::{has_leftmost, put_leftmost};
 use crate::outcome::refusal;
 use crate::{Outcome, Parts};
-use bits_core::{Alg, Domain, Enabled, Inhibited, Kind, Port, SlotId, same, wipe};
+use bits_core::{Alg, Domain, Enabled, Inhibited, Kind, Port, SlotId, wipe};
 use engine_core::Engine;
 use service_table::{Service, Status, approved};
 use ssp_slots::Vault;
@@ -77,24 +77,6 @@ pub fn mac_verify<E: Engine>(
     let right = has_leftmost(&out, tag);
     wipe(&mut out);
     verified(right, is_approved && in_approved)
-}
-
-/// Puts the first `count` bytes of an engine's output.
-pub fn put_leftmost(port: &mut Port<'_, Enabled>, whole: &[u8; 64], count: usize)
-    requires most { count ≤ 64 }
-    requires room { length port.old.outbox.now.bytes + count ≤ port.old.outbox.now.room }
-    ensures same { port.new.outbox.ghost_name ≡ port.old.outbox.ghost_name }
-    ensures put { port.new.outbox.now ≡ holding (port.old.outbox.now.bytes ++ take count whole.now) port.old.outbox.now.room }
-{
-    port.put(&whole[..count]);
-}
-
-// Whether a tag is the leftmost part of an engine's output.
-fn has_leftmost(whole: &[u8; 64], tag: &[u8]) -> bool
-    requires { length tag.now ≤ 64 }
-    ensures { result ≡ is_leftmost tag.now whole.now }
-{
-    same(tag, &whole[..tag.len()])
 }
 
 // Whether a slot holds a parameter of the approved domain.

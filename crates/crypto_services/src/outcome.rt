@@ -16,7 +16,7 @@ pub struct Outcome {
 }
 
 /// The status of a command that a slot refused.
-pub fn status_of(fault: SlotFault) -> Status
+pub(crate) fn status_of(fault: SlotFault) -> Status
     ensures { result ≡ fault_status fault }
 {
     match fault {
@@ -30,7 +30,7 @@ pub fn status_of(fault: SlotFault) -> Status
 }
 
 /// What a service answers that a slot refused.
-pub fn refusal(fault: SlotFault) -> Outcome
+pub(crate) fn refusal(fault: SlotFault) -> Outcome
     ensures { result ≡ record { status = fault_status fault; code = 0; approved = false } }
 {
     Outcome {
