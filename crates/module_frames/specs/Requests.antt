@@ -124,7 +124,7 @@ mac_of body =
     then mac_with (slice_index body 0) (alg_of (slice_index body 1)) (slice_index body 2) (drop 3 body)
     else None
 
--- the same with a MAC of that length in front of the text
+-- a MAC of that length to check in front of the text, with a known hash, under a slot below 16
 abbrev pub verify_with : ℕ → Option Alg → ℕ → List ℕ → Option Asked
 verify_with slot (Some alg) mac_length rest =
     if nat_lt slot 16 && (is_mac_length alg mac_length && nat_le mac_length (length rest))

@@ -1,6 +1,7 @@
 //! Command and reply frames: how a command is spelled, how bytes in any pieces become commands, and how a reply is spelled.
 #![tactic(auto)]
 
+mod bodies;
 mod command;
 mod frames;
 mod head;

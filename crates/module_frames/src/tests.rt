@@ -1,7 +1,7 @@
-// Heads of replies, against rows that were written by hand.
-use crate::{PAYLOAD_MAX, Reply, ReplyHead, reply_head};
+// Heads of replies and bodies of commands, against rows that were written by hand.
+use crate::{PAYLOAD_MAX, Reply, ReplyHead, Request, read_request, reply_head};
 use bits_core::{Enabled, Port};
-use service_table::{State, Status};
+use service_table::{Service, State, Status};
 use std::test::Fail;
 
 const SHOWN: [u8; 24] = [
@@ -92,4 +92,121 @@ fn a_payload_is_told_in_the_header(rt: HostRuntime) -> Result<(), Fail> {
     assert_eq!(rt; reply.payload.bytes().len(), 0);
     assert_eq!(rt; reply.payload.room(), PAYLOAD_MAX);
     Ok(())
+}
+
+// Whether a request tells this: slot, algorithm and the MAC's length, the check value or MAC that came, and the text.
+fn tells(request: &Request, numbers: (u8, u8, usize), came: &[u8], text: &[u8]) -> bool {
+    let (of_slot, of_alg, of_mac) = numbers;
+    match request {
+        Request::EntryCommit { check } => *check == came,
+        Request::Hash { alg, text: read } => alg.number() == of_alg && *read == text,
+        Request::Mac {
+            slot,
+            alg,
+            length,
+            text: read,
+        } => {
+            slot.get() == of_slot && alg.number() == of_alg && *length == of_mac && *read == text
+        }
+        Request::MacVerify {
+            slot,
+            alg,
+            tag,
+            text: read,
+        } => slot.get() == of_slot && alg.number() == of_alg && *tag == came && *read == text,
+        _ => false,
+    }
+}
+
+fn asks(service: Service, body: &[u8], numbers: (u8, u8, usize), came: &[u8], text: &[u8]) -> bool {
+    match read_request(service, body) {
+        Some(request) => tells(&request, numbers, came, text),
+        None => false,
+    }
+}
+
+type Row<'a> = (Service, &'a [u8], (u8, u8, usize), &'a [u8], &'a [u8]);
+
+#[test]
+fn bodies_are_read(rt: HostRuntime) {
+    let rows: [Row; 9] = [
+        (
+            Service::EntryCommit,
+            b"8 bytes.",
+            (0, 0, 0),
+            b"8 bytes.",
+            b"",
+        ),
+        (Service::Hash, b"\x01", (0, 1, 0), b"", b""),
+        (Service::Hash, b"\x02abc", (0, 2, 0), b"", b"abc"),
+        (Service::Hash, b"\x03\x03", (0, 3, 0), b"", b"\x03"),
+        (Service::Mac, b"\x00\x01\x01", (0, 1, 1), b"", b""),
+        (Service::Mac, b"\x0f\x02\x05abc", (15, 2, 5), b"", b"abc"),
+        (Service::MacVerify, b"\x00\x01\x01M", (0, 1, 1), b"M", b""),
+        (
+            Service::MacVerify,
+            b"\x07\x02\x01Mabc",
+            (7, 2, 1),
+            b"M",
+            b"abc",
+        ),
+        (
+            Service::MacVerify,
+            b"\x0f\x03\x03abcd",
+            (15, 3, 3),
+            b"abc",
+            b"d",
+        ),
+    ];
+    for (service, body, numbers, came, text) in rows {
+        assert!(rt; asks(service, body, numbers, came, text));
+    }
+}
+
+#[test]
+fn broken_bodies_are_refused(rt: HostRuntime) {
+    let rows: [(Service, &[u8]); 19] = [
+        (Service::EntryCommit, b""),
+        (Service::EntryCommit, b"7 bytes"),
+        (Service::EntryCommit, b"9 bytes.."),
+        (Service::Hash, b""),
+        (Service::Hash, b"\x00abc"),
+        (Service::Hash, b"\x04abc"),
+        (Service::Mac, b""),
+        (Service::Mac, b"\x00\x01"),
+        (Service::Mac, b"\x10\x01\x01abc"),
+        (Service::Mac, b"\x00\x00\x01abc"),
+        (Service::Mac, b"\x00\x04\x01abc"),
+        (Service::Mac, b"\x00\x01\x00abc"),
+        (Service::MacVerify, b""),
+        (Service::MacVerify, b"\x00\x01"),
+        (Service::MacVerify, b"\x10\x01\x01abc"),
+        (Service::MacVerify, b"\x00\x00\x01abc"),
+        (Service::MacVerify, b"\x00\x04\x01abc"),
+        (Service::MacVerify, b"\x00\x01\x00abc"),
+        (Service::MacVerify, b"\x00\x01\x04abc"),
+    ];
+    for (service, body) in rows {
+        assert!(rt; read_request(service, body).is_none());
+    }
+}
+
+#[test]
+fn a_mac_has_at_most_the_size_of_the_hash(rt: HostRuntime) {
+    for (alg, size) in [(1u8, 32u8), (2, 48), (3, 64)] {
+        let mut body = [7u8; 70];
+        body[1] = alg;
+        body[2] = size;
+        let long = usize::from(size);
+        let numbers = (7, alg, long);
+        let text = [7u8; 67];
+        let (tag, rest) = (&text[..long], &text[long..]);
+        assert!(rt; asks(Service::Mac, &body, numbers, &[], &text));
+        assert!(rt; asks(Service::MacVerify, &body, numbers, tag, rest));
+        assert!(rt; asks(Service::MacVerify, &body[..long + 3], numbers, tag, &[]));
+        assert!(rt; read_request(Service::MacVerify, &body[..long + 2]).is_none());
+        body[2] = size + 1;
+        assert!(rt; read_request(Service::Mac, &body).is_none());
+        assert!(rt; read_request(Service::MacVerify, &body).is_none());
+    }
 }
