@@ -1,3 +1,4 @@
+pub mod Bytes
 pub mod ZeroPadding
 pub mod XorBytes
 mod Appended

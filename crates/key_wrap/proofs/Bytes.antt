@@ -1,34 +1,14 @@
 -- Lists of bytes, and the cipher's blocks among them.
-use Rattle.std.proofs.Common.{◌≡◌, ℕ, zero, suc, ◌+◌, ◌-◌, ◌<◌, List, ◌++◌, length, take, drop, get_or, refl, sym, ap, ◌∙◌, arith, inl, inr, bit_xor}
+use Rattle.std.proofs.Common.{◌≡◌, ℕ, zero, suc, ◌<◌, List, ◌++◌, length, get_or, sym, ap, ◌∙◌, arith, bit_xor}
 use Rattle.std.specs.Int.{w64, to_be_bytes, byte_at}
 use Rattle.std.specs.Int.Bits.{xor_self, xor_zero_r, xor_assoc}
-use Rattle.std.proofs.lemmas.Bool.{cases_lt}
 use Rattle.std.proofs.lemmas.Nat.{xor_of_8}
 use Rattle.std.proofs.lemmas.Grind.{same_number_lists}
-use Rattle.std.proofs.lemmas.List.{length-append, length-take, get_or_append_left, get_or-append_right, get_or-take, get_or-drop, get_or_past}
+use Rattle.std.proofs.lemmas.List.{length-append}
 use Rattle.bits_core.specs.ByteList.{IsBytes, xor_bytes}
+use Rattle.bits_core.proofs.Bytes.{small_along, IsBytes-append}
 use Rattle.bits_core.proofs.XorBytes.{length-xor_bytes, get_or-xor_bytes}
 use Rattle.aes_core.specs.Aes.{IsState}
-
-pub small_along : (a b : ℕ) → a ≡ b → b < 256 → a < 256
-small_along a b e h = omega arith
-
-pub bytes-append : (xs ys : List ℕ) → IsBytes xs → IsBytes ys → IsBytes (xs ++ ys)
-bytes-append xs ys hx hy n =
-    elim (cases_lt n (length xs)) [
-      | inl below ↦ small_along (get_or (xs ++ ys) n 0) (get_or xs n 0) (get_or_append_left xs ys 0 n below) (hx n)
-      | inr above ↦ small_along (get_or (xs ++ ys) n 0) (get_or ys (n - length xs) 0) (get_or-append_right xs ys (length xs) n 0 refl above) (hy (n - length xs))
-    ]
-
-pub bytes-take : (k : ℕ) (xs : List ℕ) → IsBytes xs → IsBytes (take k xs)
-bytes-take k xs h n =
-    elim (cases_lt n k) [
-      | inl below ↦ small_along (get_or (take k xs) n 0) (get_or xs n 0) (get_or-take k xs n 0 below) (h n)
-      | inr above ↦ small_along (get_or (take k xs) n 0) 0 (get_or_past (take k xs) n 0 (omega (arith, length-take k xs))) (omega arith)
-    ]
-
-pub bytes-drop : (k : ℕ) (xs : List ℕ) → IsBytes xs → IsBytes (drop k xs)
-bytes-drop k xs h n = small_along (get_or (drop k xs) n 0) (get_or xs (k + n) 0) (get_or-drop k xs n 0) (h (k + n))
 
 pub bytes-xor : (xs ys : List ℕ) → length ys ≡ length xs → IsBytes xs → IsBytes ys → IsBytes (xor_bytes xs ys)
 bytes-xor xs ys e hx hy n =
@@ -65,4 +45,4 @@ xor_twice xs ys e =
 
 -- two semiblocks of bytes are a block
 pub two_semiblocks : (a b : List ℕ) → length a ≡ 8 → length b ≡ 8 → IsBytes a → IsBytes b → IsState (a ++ b)
-two_semiblocks a b la lb ha hb = record { long = length-append a b ∙ omega arith; small = bytes-append a b ha hb }
+two_semiblocks a b la lb ha hb = record { long = length-append a b ∙ omega arith; small = IsBytes-append a b ha hb }

@@ -5,7 +5,7 @@ use Rattle.bits_core.specs.ByteList.{IsBytes}
 use Rattle.aes_core.specs.Key.{aes}
 use Rattle.key_wrap.specs.Wrapping.{wrapped, kw, padded, IsKwPlain, IsKwpPlain, IsKwOf, IsKwpOf}
 use Rattle.key_wrap.specs.InPlace.{padded_cipher, IsPaddedFrom}
-use Rattle.key_wrap.proofs.Bytes.{bytes-append, bytes-take, bytes-drop}
+use Rattle.bits_core.proofs.Bytes.{IsBytes-append, IsBytes-take, IsBytes-drop}
 use Rattle.key_wrap.proofs.Cipher.{aes-long}
 use Rattle.key_wrap.proofs.Injective.{wrapped-long, wrapped-injective, padded_cipher-long, padded_cipher-injective}
 use Rattle.key_wrap.proofs.Padding.{padded-is, bytes-padded, kwp-padded_cipher, padded-injective}
@@ -37,7 +37,7 @@ kw_checked key w mid p hk hm same is h =
     let least : 24 ≤ length (checked p) = omega (arith, long, plain.least) in
     let whole : length (checked p) % 8 ≡ 0 = omega (arith, long, plain.whole) in
     let size : length w ≡ length (checked p) = ap (length {A = ℕ}) h.wrapping ∙ wrapped-long (aes key) (aes-long key) (checked p) least whole in
-    sym (wrapped-injective key (checked p) mid hk (bytes-append (replicate 8 0xa6) p bytes-check plain.bytes) hm (same ∙ size) least whole (sym h.wrapping ∙ is))
+    sym (wrapped-injective key (checked p) mid hk (IsBytes-append (replicate 8 0xa6) p bytes-check plain.bytes) hm (same ∙ size) least whole (sym h.wrapping ∙ is))
 
 pub kw_unique : (key w p q : List ℕ) → IsBytes key → IsKwOf key w p → IsKwOf key w q → p ≡ q
 unfolding kw
@@ -46,7 +46,7 @@ kw_unique key w p q hk hp hq =
     let long : length (checked p) ≡ length p + 8 = length-checked p in
     let size : length w ≡ length (checked p) =
     ap (length {A = ℕ}) hp.wrapping ∙ wrapped-long (aes key) (aes-long key) (checked p) (omega (arith, long, plain.least)) (omega (arith, long, plain.whole)) in
-    ap (drop 8) (kw_checked key w (checked p) q hk (bytes-append (replicate 8 0xa6) p bytes-check plain.bytes) (sym size) hp.wrapping hq)
+    ap (drop 8) (kw_checked key w (checked p) q hk (IsBytes-append (replicate 8 0xa6) p bytes-check plain.bytes) (sym size) hp.wrapping hq)
 
 -- a list with the check value whose W is w shows the plaintext
 pub kw_found : (key w mid p : List ℕ) → IsBytes mid → 24 ≤ length mid → length mid ≤ 72 → length mid % 8 ≡ 0 → w ≡ wrapped (aes key) mid
@@ -60,7 +60,7 @@ kw_found key w mid p hm least most whole is check shown =
         least = omega arith;
         most = omega arith;
         whole = omega arith;
-        bytes = subst IsBytes (sym shown) (bytes-drop 8 mid hm);
+        bytes = subst IsBytes (sym shown) (IsBytes-drop 8 mid hm);
       };
       wrapping = is ∙ ap (wrapped (aes key)) parts;
     }
@@ -88,7 +88,7 @@ kwp_found key w mid p size hm most is h shown =
     let plain : IsKwpPlain p = record {
       least = omega (arith, h.some);
       most = omega (arith, h.fits);
-      bytes = subst IsBytes (sym shown) (bytes-take size (drop 8 mid) (bytes-drop 8 mid hm));
+      bytes = subst IsBytes (sym shown) (IsBytes-take size (drop 8 mid) (IsBytes-drop 8 mid hm));
     } in
     record {
       plain = plain;

@@ -3,7 +3,7 @@ use Rattle.std.proofs.Common.{◌≡◌, ℕ, ◌+◌, ◌*◌, ◌≤◌, List,
 use Rattle.std.proofs.lemmas.List.{length-append, length-take-le, length-drop, take_at, drop_at, take-append-le, drop-drop, drop-take, take-append-drop, take-take, append_assoc}
 use Rattle.bits_core.specs.ByteList.{IsBytes}
 use Rattle.key_wrap.specs.InPlace.{laid}
-use Rattle.key_wrap.proofs.Bytes.{bytes-append, bytes-take, bytes-drop}
+use Rattle.bits_core.proofs.Bytes.{IsBytes-append, IsBytes-take, IsBytes-drop}
 
 -- what is laid has the length of a semiblock, and register i is there
 pub record Fits (front register x : List ℕ) (i : ℕ) : Type 0 where
@@ -80,6 +80,6 @@ laid-self i x within =
 
 pub bytes-laid : (front : List ℕ) (i : ℕ) (register x : List ℕ) → IsBytes front → IsBytes register → IsBytes x → IsBytes (laid front i register x)
 bytes-laid front i register x hf hr hx =
-    bytes-append (front ++ take (8 * i) (drop 8 x)) (register ++ drop (8 * i + 16) x)
-    (bytes-append front (take (8 * i) (drop 8 x)) hf (bytes-take (8 * i) (drop 8 x) (bytes-drop 8 x hx)))
-    (bytes-append register (drop (8 * i + 16) x) hr (bytes-drop (8 * i + 16) x hx))
+    IsBytes-append (front ++ take (8 * i) (drop 8 x)) (register ++ drop (8 * i + 16) x)
+    (IsBytes-append front (take (8 * i) (drop 8 x)) hf (IsBytes-take (8 * i) (drop 8 x) (IsBytes-drop 8 x hx)))
+    (IsBytes-append register (drop (8 * i + 16) x) hr (IsBytes-drop (8 * i + 16) x hx))

@@ -8,7 +8,7 @@ use Rattle.bits_core.specs.ByteList.{IsBytes, zeros, zero_padded}
 use Rattle.bits_core.proofs.ZeroPadding.{length-zeros, get_or-zeros, zeros-append-zeros}
 use Rattle.key_wrap.specs.Wrapping.{wrapped, padded, kwp, IsKwpPlain}
 use Rattle.key_wrap.specs.InPlace.{padded_cipher, IsPadded}
-use Rattle.key_wrap.proofs.Bytes.{small_along, bytes-append}
+use Rattle.bits_core.proofs.Bytes.{small_along, IsBytes-append}
 use Rattle.key_wrap.proofs.Injective.{padded_cipher_one, padded_cipher_more}
 
 -- zeros after a plaintext of n bytes
@@ -41,8 +41,8 @@ bytes-header n (suc (suc (suc (suc (suc (suc (suc (suc k)))))))) = omega arith
 
 pub bytes-padded : (p : List ℕ) → IsBytes p → IsBytes (padded p)
 bytes-padded p h =
-    bytes-append ((0xa6 ∷ 0x59 ∷ 0x59 ∷ 0xa6 ∷ []) ++ to_be_bytes w32 (length p)) (p ++ zeros (padding (length p)))
-    (bytes-header (length p)) (bytes-append p (zeros (padding (length p))) h (bytes-zeros (padding (length p))))
+    IsBytes-append ((0xa6 ∷ 0x59 ∷ 0x59 ∷ 0xa6 ∷ []) ++ to_be_bytes w32 (length p)) (p ++ zeros (padding (length p)))
+    (bytes-header (length p)) (IsBytes-append p (zeros (padding (length p))) h (bytes-zeros (padding (length p))))
 
 pub kwp-padded_cipher : (enciphered : List ℕ → List ℕ) (p : List ℕ) → 1 ≤ length p → kwp enciphered p ≡ padded_cipher enciphered (padded p)
 unfolding kwp

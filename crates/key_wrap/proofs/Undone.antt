@@ -6,7 +6,8 @@ use Rattle.bits_core.specs.ByteList.{IsBytes, xor_bytes}
 use Rattle.bits_core.proofs.XorBytes.{length-xor_bytes}
 use Rattle.aes_core.specs.Aes.{IsState}
 use Rattle.key_wrap.specs.InPlace.{laid, block_at, stepped, steps}
-use Rattle.key_wrap.proofs.Bytes.{bytes-take, bytes-drop, bytes-xor, bytes-number, xor_twice, two_semiblocks}
+use Rattle.bits_core.proofs.Bytes.{IsBytes-take, IsBytes-drop}
+use Rattle.key_wrap.proofs.Bytes.{bytes-xor, bytes-number, xor_twice, two_semiblocks}
 use Rattle.key_wrap.proofs.Laid.{Fits, length-laid, take-laid, take_register-laid, laid-laid, laid-self, bytes-laid}
 
 -- a map of blocks of bytes, and one that undoes it
@@ -39,7 +40,7 @@ register-long x i h = length-take-le 8 (drop (8 * i + 8) x) (omega (arith, h.wit
 block-state : (x : List ℕ) (i : ℕ) → HasRegister x i → IsState (block_at i x)
 block-state x i h =
     two_semiblocks (take 8 x) (take 8 (drop (8 * i + 8) x)) (front-long x i h) (register-long x i h)
-    (bytes-take 8 x h.bytes) (bytes-take 8 (drop (8 * i + 8) x) (bytes-drop (8 * i + 8) x h.bytes))
+    (IsBytes-take 8 x h.bytes) (IsBytes-take 8 (drop (8 * i + 8) x) (IsBytes-drop (8 * i + 8) x h.bytes))
 
 pub block-long : (i : ℕ) (x : List ℕ) → 8 * i + 16 ≤ length x → length (block_at i x) ≡ 16
 block-long i x within =
@@ -129,7 +130,7 @@ stepped-keeps enciphered deciphered inv t i x h =
     let state : IsState b = inv.states (block_at i x) (block-state x i h) in
     let n : List ℕ = to_be_bytes w64 t in
     let f : List ℕ = xor_bytes (take 8 b) n in (
-      bytes-laid f i (drop 8 b) x (bytes-xor (take 8 b) n (sym (take-half b state.long)) (bytes-take 8 b state.small) (bytes-number t)) (bytes-drop 8 b state.small) h.bytes,
+      bytes-laid f i (drop 8 b) x (bytes-xor (take 8 b) n (sym (take-half b state.long)) (IsBytes-take 8 b state.small) (bytes-number t)) (IsBytes-drop 8 b state.small) h.bytes,
       length-laid f i (drop 8 b) x (fits_sum b x t i state.long h.within),
     )
 

@@ -4,7 +4,7 @@ use Rattle.std.proofs.lemmas.Bool.{false≢true}
 use Rattle.std.proofs.lemmas.Nat.{be_bytes_4}
 use Rattle.std.proofs.lemmas.List.{length-drop, length-take-le, take_all, take-replicate}
 use Rattle.bits_core.specs.ByteList.{IsBytes, zeros}
-use Rattle.key_wrap.proofs.Bytes.{bytes-take, bytes-drop}
+use Rattle.bits_core.proofs.Bytes.{IsBytes-take, IsBytes-drop}
 use Rattle.key_wrap.proofs.Padding.{padding, length-padded, size_is, rest_is, four_bytes, is_padded}
 use Rattle.key_wrap.proofs.kwp.plain_length.Goals as goal
 
@@ -29,7 +29,7 @@ returns-clause-some c =
     let enough : 8 ≤ length text = omega arith in
     let four : List ℕ = take 4 (drop 4 text) in
     let number : to_be_bytes w32 size ≡ four =
-    be_bytes_4 four size (length-take-le 4 (drop 4 text) (omega (arith, length-drop 4 text))) (bytes-take 4 (drop 4 text) (bytes-drop 4 text small))
+    be_bytes_4 four size (length-take-le 4 (drop 4 text) (omega (arith, length-drop 4 text))) (IsBytes-take 4 (drop 4 text) (IsBytes-drop 4 text small))
     (c.from_be_bytes-size.ensures ∙ ap (from_be_bytes w32) (four_bytes text enough)) in
     let k : ℕ = length text - 8 - size in
     let few : k ≤ 8 = omega arith in

@@ -5,7 +5,8 @@ use Rattle.aes_core.specs.Aes.{IsState}
 use Rattle.aes_core.specs.Key.{aes, aes_inverse}
 use Rattle.aes_spec.proofs.EncryptionUndoes.{aes-aes_inverse}
 use Rattle.key_wrap.specs.InPlace.{stepped}
-use Rattle.key_wrap.proofs.Bytes.{bytes-take, bytes-drop, bytes-xor, bytes-number, two_semiblocks}
+use Rattle.bits_core.proofs.Bytes.{IsBytes-take, IsBytes-drop}
+use Rattle.key_wrap.proofs.Bytes.{bytes-xor, bytes-number, two_semiblocks}
 use Rattle.key_wrap.proofs.Undone.{take-half, drop-half, sum-half, stepped_again, block-long, block-halves}
 use Rattle.key_wrap.proofs.semiblocks.unstep.Goals as goal
 
@@ -24,7 +25,7 @@ returns-clause-opened c = λ key bytes is.
     let given : sum ++ drop 8 block ≡ xor_bytes (take 8 block) number ++ drop 8 block = ap (λ (u : List ℕ). u ++ drop 8 block) added in
     let state : IsState (xor_bytes (take 8 block) number ++ drop 8 block) =
     two_semiblocks (xor_bytes (take 8 block) number) (drop 8 block) (sum-half block c.args.t long) (drop-half block long)
-    (bytes-xor (take 8 block) number (sym (take-half block long)) (bytes-take 8 block small) (bytes-number c.args.t)) (bytes-drop 8 block small) in
+    (bytes-xor (take 8 block) number (sym (take-half block long)) (IsBytes-take 8 block small) (bytes-number c.args.t)) (IsBytes-drop 8 block small) in
     let closed : aes key opened ≡ xor_bytes (take 8 text) number ++ take 8 (drop (8 * i + 8) text) =
     ap (aes key) (c.decrypt.ensures key is ∙ ap (aes_inverse key) given)
     ∙ aes-aes_inverse key (xor_bytes (take 8 block) number ++ drop 8 block) bytes state
