@@ -1,8 +1,9 @@
 // A law of the program's definition, as the contract of a function without a body.
-ghost use Rattle.engine_core.specs.Calls.{Calls};
 ghost use Rattle.module_top.specs.Program.{HasOneOutput};
 
+use engine_core::Engine;
+
 /// The definition leaves nothing open: for an engine, words and input there is one status and one output.
-pub fn has_one_output()
-    ensures { {V : Type 0} (calls : Calls V) → HasOneOutput calls }
+pub fn has_one_output<E: Engine>()
+    ensures { HasOneOutput E.calls }
 {}

@@ -34,11 +34,19 @@ pub record Committed (V : Type 0) : Type 0 where
 abbrev pub not_committed : {V : Type 0} → Core V → Status → Committed V
 not_committed core why = record { core = core; status = why }
 
+-- the engine has made the MAC of a check
+abbrev pub after_check : {V : Type 0} → Calls V → Core V → Target → List ℕ → Core V
+after_check calls core target bytes = record core { engine = calls.mac_after core.engine Sha256 bytes (target_bytes target) }
+
+-- the target's slot holds the parameter
+abbrev pub filled : {V : Type 0} → Core V → Target → List ℕ → Core V
+filled core target bytes = record core { vault = with_slot core.vault target.slot (filled_slot target.header bytes) }
+
 abbrev pub checked : {V : Type 0} → Calls V → Core V → Target → List ℕ → List ℕ → Committed V
 checked calls core target bytes check =
-    let after = record core { engine = calls.mac_after core.engine Sha256 bytes (target_bytes target) } in
+    let after = after_check calls core target bytes in
     if bytes_eq check (check_value calls core.engine target bytes)
-    then record { core = record after { vault = with_slot core.vault target.slot (filled_slot target.header bytes) }; status = status.Ok }
+    then record { core = filled after target bytes; status = status.Ok }
     else not_committed after status.CheckFailed
 
 -- Looked at in this order: as many bytes were entered as the parameter has, the slot is empty, and the check value is right. Then

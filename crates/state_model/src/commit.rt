@@ -1,5 +1,5 @@
 // The commit of an entered parameter.
-ghost use Rattle.std.specs.Prelude.{◌≡◌, ◌≤◌, ◌<◌, Some, length, IsTrue};
+ghost use Rattle.std.specs.Prelude.{◌≡◌, ◌≤◌, ◌<◌, Some, length, IsTrue, bytes_eq};
 ghost use Rattle.bits_core.specs.Parameters.{length_fits};
 ghost use Rattle.ssp_slots.specs.Slots.{AreWellFormed};
 ghost use Rattle.crypto_services.specs.Serves.{core_of};

@@ -289,14 +289,16 @@ impl<E: Engine> Module<E> {
     }
 
     // Hash: a digest.
-    fn hash(&mut self, alg: Alg, text: &[u8], payload: &mut Outbox) -> Outcome
+    fn hash(&mut self, alg: Alg, text: &[u8], port: &mut Port<'_, Enabled>) -> Outcome
         requires permitted { is_permitted Service.Hash self.old.state ≡ true }
-        requires payload { payload.old ≡ holding [] 65664 }
+        requires empty { port.old.outbox.now.bytes ≡ [] }
+        requires room { 65664 ≤ port.old.outbox.now.room }
         ensures answer { (s : MachineState E) → Represents self.old s →
-            Leaves (served s (hash_served E.calls s.core alg text.now)) self.new result no_block payload.new.bytes }
-        ensures room { payload.new.room ≡ 65664 }
+            Leaves (served s (hash_served E.calls s.core alg text.now)) self.new result no_block port.new.outbox.now.bytes }
+        ensures same { port.new.outbox.ghost_name ≡ port.old.outbox.ghost_name }
+        ensures room { port.new.outbox.now.room ≡ port.old.outbox.now.room }
     {
-        let outcome = hash(&mut self.parts, alg, text, Port::<Enabled>::over(payload));
+        let outcome = hash(&mut self.parts, alg, text, port);
         self.count_use();
         outcome
     }
@@ -308,17 +310,18 @@ impl<E: Engine> Module<E> {
         alg: Alg,
         mac_length: usize,
         text: &[u8],
-        payload: &mut Outbox,
+        port: &mut Port<'_, Enabled>,
     ) -> Outcome
         requires permitted { is_permitted Service.Mac self.old.state ≡ true }
         requires least { 1 ≤ mac_length }
         requires most { mac_length ≤ alg_size alg }
-        requires payload { payload.old ≡ holding [] 65664 }
+        requires empty { port.old.outbox.now.bytes ≡ [] }
+        requires room { 65664 ≤ port.old.outbox.now.room }
         ensures answer { (s : MachineState E) → Represents self.old s →
-            Leaves (served s (mac_served E.calls s.core slot alg mac_length text.now)) self.new result no_block payload.new.bytes }
-        ensures room { payload.new.room ≡ 65664 }
+            Leaves (served s (mac_served E.calls s.core slot alg mac_length text.now)) self.new result no_block port.new.outbox.now.bytes }
+        ensures same { port.new.outbox.ghost_name ≡ port.old.outbox.ghost_name }
+        ensures room { port.new.outbox.now.room ≡ port.old.outbox.now.room }
     {
-        let port = Port::<Enabled>::over(payload);
         let outcome = mac(&mut self.parts, slot, alg, mac_length, text, port);
         self.count_use();
         outcome
@@ -331,17 +334,18 @@ impl<E: Engine> Module<E> {
         alg: Alg,
         tag: &[u8],
         text: &[u8],
-        payload: &mut Outbox,
+        port: &mut Port<'_, Inhibited>,
     ) -> Outcome
         requires permitted { is_permitted Service.MacVerify self.old.state ≡ true }
         requires least { 1 ≤ length tag.now }
         requires most { length tag.now ≤ alg_size alg }
-        requires payload { payload.old ≡ holding [] 65664 }
+        requires empty { port.old.outbox.now.bytes ≡ [] }
+        requires room { 65664 ≤ port.old.outbox.now.room }
         ensures answer { (s : MachineState E) → Represents self.old s →
-            Leaves (served s (mac_verify_served E.calls s.core slot alg tag.now text.now)) self.new result no_block payload.new.bytes }
-        ensures room { payload.new.room ≡ 65664 }
+            Leaves (served s (mac_verify_served E.calls s.core slot alg tag.now text.now)) self.new result no_block port.new.outbox.now.bytes }
+        ensures same { port.new.outbox.ghost_name ≡ port.old.outbox.ghost_name }
+        ensures room { port.new.outbox.now.room ≡ port.old.outbox.now.room }
     {
-        let port = Port::<Inhibited>::over(payload);
         let outcome = mac_verify(&mut self.parts, slot, alg, tag, text, port);
         self.count_use();
         outcome
@@ -385,19 +389,28 @@ impl<E: Engine> Module<E> {
             Request::Zeroise { slot } => self.zeroise(slot),
             Request::ZeroiseAll => self.zeroise_all(),
             Request::ShowSlot { slot } => self.show_slot(slot, block),
-            Request::Hash { alg, text } => return self.hash(alg, text, payload),
+            Request::Hash { alg, text } => {
+                let mut port = Port::<Enabled>::over(payload);
+                return self.hash(alg, text, &mut port);
+            }
             Request::Mac {
                 slot,
                 alg,
                 length,
                 text,
-            } => return self.mac(slot, alg, length, text, payload),
+            } => {
+                let mut port = Port::<Enabled>::over(payload);
+                return self.mac(slot, alg, length, text, &mut port);
+            }
             Request::MacVerify {
                 slot,
                 alg,
                 tag,
                 text,
-            } => return self.mac_verify(slot, alg, tag, text, payload),
+            } => {
+                let mut port = Port::<Inhibited>::over(payload);
+                return self.mac_verify(slot, alg, tag, text, &mut port);
+            }
         }
         unused(Status::Ok)
     }

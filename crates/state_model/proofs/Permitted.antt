@@ -1,0 +1,81 @@
+-- What the table says of the state in which a service is permitted.
+use Rattle.std.proofs.Common.{◌≡◌, ◌≢◌, ◌⊎◌, true, refl, inl, inr}
+use Rattle.service_table.specs.declared.service.Service.TheVariants as service
+use Rattle.service_table.specs.declared.state.State.{State}
+use Rattle.service_table.specs.declared.state.State.TheVariants as state
+use Rattle.service_table.specs.Services.{is_permitted}
+use Rattle.state_model.specs.MachineState.{IsReturn}
+use Rattle.state_model.specs.Step.{return_from}
+
+pub off_for_power_on : (found : State) → is_permitted service.PowerOn found ≡ true → found ≡ state.Off
+off_for_power_on state.Off h = refl
+off_for_power_on _ h = cc
+
+pub testing_for_test_step : (found : State) → is_permitted service.TestStep found ≡ true → found ≡ state.SelfTest
+testing_for_test_step state.SelfTest h = refl
+testing_for_test_step _ h = cc
+
+pub return_for_request_tests : (found : State) → is_permitted service.RequestTests found ≡ true → IsReturn (return_from found)
+return_for_request_tests state.Init h = tt
+return_for_request_tests state.Approved h = tt
+return_for_request_tests state.Officer h = tt
+return_for_request_tests state.User h = tt
+return_for_request_tests state.Off h = cc
+return_for_request_tests state.SelfTest h = cc
+return_for_request_tests state.Entry h = cc
+return_for_request_tests state.Error h = cc
+
+pub not_entering_for_request_tests : (found : State) → is_permitted service.RequestTests found ≡ true → found ≢ state.Entry
+not_entering_for_request_tests state.Entry h = λ e. cc
+not_entering_for_request_tests _ h = λ e. cc
+
+pub not_testing_for_select_role : (found : State) → is_permitted service.SelectRole found ≡ true → found ≢ state.SelfTest
+not_testing_for_select_role state.SelfTest h = λ e. cc
+not_testing_for_select_role _ h = λ e. cc
+
+pub not_entering_for_select_role : (found : State) → is_permitted service.SelectRole found ≡ true → found ≢ state.Entry
+not_entering_for_select_role state.Entry h = λ e. cc
+not_entering_for_select_role _ h = λ e. cc
+
+pub officer_for_entry_begin : (found : State) → is_permitted service.EntryBegin found ≡ true → found ≡ state.Officer
+officer_for_entry_begin state.Officer h = refl
+officer_for_entry_begin _ h = cc
+
+-- the three services of an entry are permitted in the same state
+pub entering_for_entry_bytes : (found : State) → is_permitted service.EntryBytes found ≡ true → found ≡ state.Entry
+entering_for_entry_bytes state.Entry h = refl
+entering_for_entry_bytes _ h = cc
+
+-- so are the digest and the display of a slot, in a role
+pub role_for_hash : (found : State) → is_permitted service.Hash found ≡ true → (found ≡ state.Officer) ⊎ (found ≡ state.User)
+role_for_hash state.Officer h = inl refl
+role_for_hash state.User h = inr refl
+role_for_hash _ h = cc
+
+-- what is permitted to a user is permitted in a role
+pub hash_for_mac : (found : State) → is_permitted service.Mac found ≡ true → is_permitted service.Hash found ≡ true
+hash_for_mac state.User h = refl
+hash_for_mac _ h = cc
+
+pub return_is_not_entry : (found : State) → IsReturn found → found ≢ state.Entry
+return_is_not_entry state.Entry h = absurd h
+return_is_not_entry _ h = λ e. cc
+
+pub return_is_settled : (found : State) → IsReturn found → found ≢ state.SelfTest
+return_is_settled state.SelfTest h = absurd h
+return_is_settled _ h = λ e. cc
+
+pub return_is_powered : (found : State) → IsReturn found → found ≢ state.Off
+return_is_powered state.Off h = absurd h
+return_is_powered _ h = λ e. cc
+
+-- a role is a state to which tests return
+pub return_for_hash : (found : State) → is_permitted service.Hash found ≡ true → IsReturn found
+return_for_hash state.Officer h = tt
+return_for_hash state.User h = tt
+return_for_hash state.Off h = cc
+return_for_hash state.Init h = cc
+return_for_hash state.SelfTest h = cc
+return_for_hash state.Approved h = cc
+return_for_hash state.Entry h = cc
+return_for_hash state.Error h = cc
