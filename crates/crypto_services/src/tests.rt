@@ -75,22 +75,31 @@ fn mac_in<E: Engine>(
     ensures { outbox.new.room ≡ outbox.old.room }
 {
     let mut port = Port::<Enabled>::over(outbox);
-    mac(parts, slot, Alg::Sha256, mac_length, b"what do ya want for nothing?", &mut port)
+    mac(
+        parts,
+        slot,
+        Alg::Sha256,
+        mac_length,
+        b"what do ya want for nothing?",
+        &mut port,
+    )
 }
 
 // A check of a tag under SHA-256.
-fn verify<E: Engine>(
-    parts: &mut Parts<E>,
-    slot: SlotId,
-    tag: &[u8],
-    outbox: &mut Outbox,
-) -> Outcome
+fn verify<E: Engine>(parts: &mut Parts<E>, slot: SlotId, tag: &[u8], outbox: &mut Outbox) -> Outcome
     requires least { 1 ≤ length tag.now }
     requires most { length tag.now ≤ 32 }
     ensures { outbox.new.room ≡ outbox.old.room }
 {
     let mut port = Port::<Inhibited>::over(outbox);
-    mac_verify(parts, slot, Alg::Sha256, tag, b"what do ya want for nothing?", &mut port)
+    mac_verify(
+        parts,
+        slot,
+        Alg::Sha256,
+        tag,
+        b"what do ya want for nothing?",
+        &mut port,
+    )
 }
 
 // A tag with bits of one byte turned.
@@ -118,7 +127,10 @@ fn verify_cut<E: Engine>(
 }
 
 fn expect_uses<E: Engine>(rt: &impl Abort, parts: &Parts<E>, slot: SlotId, want: u32) {
-    assert_eq!(rt; parts.vault.show(slot).header.map(|header| header.uses), Some(want));
+    assert_eq!(rt;
+        parts.vault.show(slot).header.map(|header| header.uses),
+        Some(want)
+    );
 }
 
 #[test]
