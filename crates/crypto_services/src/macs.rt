@@ -39,9 +39,8 @@ pub fn mac<E: Engine>(
         return refusal(fault);
     }
     let mut out = [0; 64];
-    parts
-        .engine
-        .mac(alg, parts.vault.bytes(slot), text, &mut out);
+    let key = parts.vault.bytes(slot);
+    parts.engine.mac(alg, key, text, &mut out);
     put_leftmost(port, &out, mac_length);
     wipe(&mut out);
     Outcome {

@@ -37,9 +37,8 @@ pub fn mac_verify<E: Engine>(
         return refusal(fault);
     }
     let mut out = [0; 64];
-    parts
-        .engine
-        .mac(alg, parts.vault.bytes(slot), text, &mut out);
+    let key = parts.vault.bytes(slot);
+    parts.engine.mac(alg, key, text, &mut out);
     let right = has_leftmost(&out, tag);
     wipe(&mut out);
     verified(right, is_approved && in_approved)
