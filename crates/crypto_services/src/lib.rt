@@ -6,10 +6,12 @@ mod leftmost;
 mod macs;
 mod outcome;
 mod parts;
+mod tags;
 #[cfg(test)]
 mod tests;
 
 pub use digests::hash;
-pub use macs::{mac, mac_verify};
+pub use macs::mac;
 pub use outcome::Outcome;
 pub use parts::Parts;
+pub use tags::mac_verify;

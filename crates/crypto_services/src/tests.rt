@@ -1,5 +1,5 @@
 //! Values of FIPS 180-4, RFC 4231 and Python's hmac.
-ghost use Rattle.std.specs.Prelude.{◌≡◌, ◌≤◌, length};
+ghost use Rattle.std.specs.Prelude.{◌≡◌, ◌<◌, ◌≤◌, length};
 
 use crate::{Outcome, Parts, hash, mac, mac_verify};
 use bits_core::{Alg, Domain, Enabled, Header, Inhibited, Kind, Outbox, Port, SlotId};
@@ -26,6 +26,12 @@ const FOURTEEN: [u8; 32] = [
     0xf2, 0x88, 0xf7, 0x69, 0x43, 0xa8, 0x30, 0x3d, 0xe5, 0x84, 0x7d, 0x99, 0x3d, 0xae, 0xde, 0xd6,
 ];
 
+fn slot_at(number: u8) -> SlotId
+    requires { number < 16 }
+{
+    SlotId::new(number).unwrap()
+}
+
 fn mac_header(domain: Domain, uses: u32) -> Header
     ensures kind { result.kind ≡ Kind.Mac }
     ensures domain { result.domain ≡ domain }
@@ -47,6 +53,15 @@ fn outcome(status: Status, approved: bool) -> Outcome {
     }
 }
 
+// The digest of `abc` under SHA-256, in `outbox`.
+fn hash_in<E: Engine>(parts: &mut Parts<E>, outbox: &mut Outbox) -> Outcome
+    requires { 65664 ≤ outbox.old.room }
+    ensures { outbox.new.room ≡ outbox.old.room }
+{
+    let mut port = Port::<Enabled>::over(outbox);
+    hash(parts, Alg::Sha256, b"abc", &mut port)
+}
+
 // A MAC under SHA-256, in `outbox`.
 fn mac_in<E: Engine>(
     parts: &mut Parts<E>,
@@ -60,38 +75,71 @@ fn mac_in<E: Engine>(
     ensures { outbox.new.room ≡ outbox.old.room }
 {
     let mut port = Port::<Enabled>::over(outbox);
-    mac(parts, slot, Alg::Sha256, mac_length, b"what do ya want for nothing?", &mut port)
+    mac(
+        parts,
+        slot,
+        Alg::Sha256,
+        mac_length,
+        b"what do ya want for nothing?",
+        &mut port,
+    )
 }
 
 // A check of a tag under SHA-256.
-fn verify<E: Engine>(
-    parts: &mut Parts<E>,
-    slot: SlotId,
-    tag: &[u8],
-    outbox: &mut Outbox,
-) -> Outcome
+fn verify<E: Engine>(parts: &mut Parts<E>, slot: SlotId, tag: &[u8], outbox: &mut Outbox) -> Outcome
     requires least { 1 ≤ length tag.now }
     requires most { length tag.now ≤ 32 }
     ensures { outbox.new.room ≡ outbox.old.room }
 {
     let mut port = Port::<Inhibited>::over(outbox);
-    mac_verify(parts, slot, Alg::Sha256, tag, b"what do ya want for nothing?", &mut port)
+    mac_verify(
+        parts,
+        slot,
+        Alg::Sha256,
+        tag,
+        b"what do ya want for nothing?",
+        &mut port,
+    )
+}
+
+// A tag with bits of one byte turned.
+fn turned(right: &[u8; 32], place: usize, mask: u8) -> [u8; 32]
+    requires { place < 32 }
+{
+    let mut tag = *right;
+    tag[place] ^= mask;
+    tag
+}
+
+// A check of the MAC of RFC 4231, cut behind a place where these bits are turned.
+fn verify_cut<E: Engine>(
+    parts: &mut Parts<E>,
+    slot: SlotId,
+    place: usize,
+    mask: u8,
+    outbox: &mut Outbox,
+) -> Outcome
+    requires { place < 32 }
+    ensures { outbox.new.room ≡ outbox.old.room }
+{
+    let tag = turned(&JEFE, place, mask);
+    verify(parts, slot, &tag[..place + 1], outbox)
 }
 
 fn expect_uses<E: Engine>(rt: &impl Abort, parts: &Parts<E>, slot: SlotId, want: u32) {
-    assert_eq!(rt; parts.vault.show(slot).header.map(|header| header.uses), Some(want));
+    assert_eq!(rt;
+        parts.vault.show(slot).header.map(|header| header.uses),
+        Some(want)
+    );
 }
 
 #[test]
 fn published_values_come_out(rt: HostRuntime) -> Result<(), Fail> {
     let mut parts = Parts::new(rt.alloc(), Shipped::new())?;
     let mut outbox = Outbox::new(rt.alloc(), 65_664)?;
-    let slot = SlotId::new(3).unwrap();
-    {
-        let mut port = Port::<Enabled>::over(&mut outbox);
-        let answer = hash(&mut parts, Alg::Sha256, b"abc", &mut port);
-        assert_eq!(rt; answer, outcome(Status::Ok, true));
-    }
+    let slot = slot_at(3);
+    let answer = hash_in(&mut parts, &mut outbox);
+    assert_eq!(rt; answer, outcome(Status::Ok, true));
     assert_eq!(rt; outbox.bytes(), ABC.as_slice());
     let header = mac_header(Domain::Other, 1);
     assert_eq!(rt; parts.vault.put(slot, &header, b"Jefe"), Ok(()));
@@ -105,8 +153,8 @@ fn published_values_come_out(rt: HostRuntime) -> Result<(), Fail> {
 fn refusals_come_in_their_order(rt: HostRuntime) -> Result<(), Fail> {
     let mut parts = Parts::new(rt.alloc(), Shipped::new())?;
     let mut outbox = Outbox::new(rt.alloc(), 65_664)?;
-    let aes = SlotId::new(1).unwrap();
-    let slot = SlotId::new(2).unwrap();
+    let aes = slot_at(1);
+    let slot = slot_at(2);
     let header = Header {
         kind: Kind::Aes,
         domain: Domain::Approved,
@@ -141,16 +189,14 @@ fn refusals_come_in_their_order(rt: HostRuntime) -> Result<(), Fail> {
 fn tags_are_checked(rt: HostRuntime) -> Result<(), Fail> {
     let mut parts = Parts::new(rt.alloc(), Shipped::new())?;
     let mut outbox = Outbox::new(rt.alloc(), 4)?;
-    let other = SlotId::new(0).unwrap();
-    let slot = SlotId::new(15).unwrap();
+    let other = slot_at(0);
+    let slot = slot_at(15);
     let header = mac_header(Domain::Other, 64);
     assert_eq!(rt; parts.vault.put(other, &header, b"Jefe"), Ok(()));
     for place in 0usize..32 {
-        let mut tag = JEFE;
-        let answer = verify(&mut parts, other, &tag[..place + 1], &mut outbox);
+        let answer = verify_cut(&mut parts, other, place, 0, &mut outbox);
         assert_eq!(rt; answer, outcome(Status::Ok, false));
-        tag[place] ^= 0x80;
-        let answer = verify(&mut parts, other, &tag[..place + 1], &mut outbox);
+        let answer = verify_cut(&mut parts, other, place, 0x80, &mut outbox);
         assert_eq!(rt; answer, outcome(Status::AuthFailed, false));
     }
     expect_uses(&rt, &parts, other, 0);
@@ -172,7 +218,7 @@ fn tags_are_checked(rt: HostRuntime) -> Result<(), Fail> {
 fn a_fault_of_the_engine_shows(rt: HostRuntime) -> Result<(), Fail> {
     let mut parts = Parts::new(rt.alloc(), Faulty::new(1, 0, 0))?;
     let mut outbox = Outbox::new(rt.alloc(), 65_664)?;
-    let slot = SlotId::new(3).unwrap();
+    let slot = slot_at(3);
     let header = mac_header(Domain::Other, 2);
     assert_eq!(rt; parts.vault.put(slot, &header, b"Jefe"), Ok(()));
     let mut want = JEFE;

@@ -3,10 +3,12 @@
 
 mod engine;
 mod faulty;
+mod laws;
 mod shipped;
 #[cfg(test)]
 mod tests;
 
 pub use engine::Engine;
 pub use faulty::Faulty;
+pub use laws::shipped_is_standard;
 pub use shipped::Shipped;
