@@ -4,6 +4,7 @@ ghost use Rattle.std.specs.Prelude.{◌≤◌};
 use crate::answering::send;
 use crate::{Ended, RunFault, run, serve};
 use bits_core::{Enabled, Port};
+use engine_core::Shipped;
 use module_frames::{Fed, Frames, Reply};
 use outside::{MemSink, MemSource};
 use state_model::Module;
@@ -38,7 +39,7 @@ fn outcome(alloc: Global, words: &[&str], bytes: &[u8], step: usize) -> Result<(
     let words = words_of(alloc, words)?;
     let mut commands = MemSource::new(bytes.to_vec(alloc)?, step, Vec::new(alloc));
     let mut replies = MemSink::new(alloc, 2_000, 24, Vec::new(alloc))?;
-    let status = run(alloc, &words, &mut commands, &mut replies);
+    let status = run(alloc, &words, &mut commands, &mut replies, Shipped::new());
     Ok((status, replies))
 }
 
@@ -52,7 +53,7 @@ fn with_faults(
     let words = words_of(alloc, &["serve"])?;
     let mut commands = MemSource::new(STREAM.to_vec(alloc)?, 8, reads.to_vec(alloc)?);
     let mut replies = MemSink::new(alloc, room, 24, writes.to_vec(alloc)?)?;
-    let status = run(alloc, &words, &mut commands, &mut replies);
+    let status = run(alloc, &words, &mut commands, &mut replies, Shipped::new());
     Ok((status, replies))
 }
 
@@ -72,7 +73,7 @@ fn answers_the_worked_streams(rt: HostRuntime) -> Result<(), Fail> {
         0x5c, 0x01, 0x04, 0, 0, 0, 0, 0, 0, 0, 0, 0, 0, 0, 0, 0, 0, 0, 0, 0, 0, 0, 0, 0,
     ];
     let no_service = [
-        0x5c, 0x01, 0x0a, 1, 0, 0, 0, 0, 0, 0, 0, 0, 0, 0, 0, 0, 0, 0, 0, 0, 0, 0, 0, 0,
+        0x5c, 0x01, 0x0f, 1, 0, 0, 0, 0, 0, 0, 0, 0, 0, 0, 0, 0, 0, 0, 0, 0, 0, 0, 0, 0,
     ];
     let echoed = [
         0x5c, 0x01, 0x7e, 1, 0, 0, 0, 0, 0, 0, 0, 0, 0, 0, 0, 0, 0, 0, 0, 0, 0, 0, 0, 0,
@@ -83,7 +84,7 @@ fn answers_the_worked_streams(rt: HostRuntime) -> Result<(), Fail> {
     let rows: [(&[u8], &[u8], u8); 10] = [
         (&STREAM, &REPLIES, 0),
         (&[0xc5, 0x01, 0x04, 0, 0, 0, 0, 0], &off, 0),
-        (&[0xc5, 0x01, 0x0a, 0, 0, 0, 0, 0], &no_service, 0),
+        (&[0xc5, 0x01, 0x0f, 0, 0, 0, 0, 0], &no_service, 0),
         (&[0xc5, 0x01, 0x7e, 0, 0, 0, 0, 0], &echoed, 0),
         (&[0xc5, 0x01, 0x07, 0, 0, 0, 0, 0], &not_now, 0),
         (&[], &[], 0),
@@ -171,7 +172,7 @@ fn refuses_each_other_byte_of_a_header(rt: HostRuntime) -> Result<(), Fail> {
 fn ending(alloc: Global, bytes: &[u8], step: usize) -> Result<Ended, Fail>
     requires { 1 ≤ step }
 {
-    let mut module = Module::open(alloc)?;
+    let mut module = Module::open(alloc, Shipped::new())?;
     let mut frames = Frames::new(alloc)?;
     let mut reply = Reply::new(alloc)?;
     let mut chunk = vec![in alloc; 0; 100]?;

@@ -33,7 +33,7 @@ returns-in-BadFrame-clause-fault g c place is =
     (record { kept = c.loop-done.module; gained = g.K.Sink.gained c.loop-done.replies }) =
     record { within = i.within; served = i.served; partial = i.partial; sound = i.sound; place = i.place } in
     let same : c.in-BadFrame.place ≡ place = cc in
-    subst (λ p. ServedToFault (record { kept = c.args.module.now; gained = g.K.Sink.gained c.args.replies.now }) c.args.frames.now c.args.piece.now p
+    subst (λ p. ServedToFault g.E.Engine.calls (record { kept = c.args.module.now; gained = g.K.Sink.gained c.args.replies.now }) c.args.frames.now c.args.piece.now p
     (record { kept = c.loop-done.module; gained = g.K.Sink.gained c.loop-done.replies })) same (fault_served g.E.Engine.calls {new = c.feed.new.self} way took)
 
 pub returns-in-Err-clause-write_fault : goal.returns-in-Err-clause-write_fault

@@ -1,9 +1,20 @@
-use Rattle.std.proofs.Common.{inl, inr, sym, ◌∙◌, ap}
+use Rattle.std.proofs.Common.{◌≡◌, ◌≢◌, Bool, true, false, inl, inr, refl, sym, ◌∙◌, ap, append-nil, Some, []}
 use Rattle.std.specs.Prelude.{map}
 use Rattle.std.specs.String.{string_bytes}
-use Rattle.module_top.specs.Program.{exit_status}
+use Rattle.module_top.specs.Program.{serve_words, exit_status}
 use Rattle.module_top.proofs.Outputs.{never_usage, never_memory, read_fault_of, write_fault_of, output_of}
 use Rattle.module_top.proofs.running.run.Goals as goal
+
+not_both : (b : Bool) → b ≡ false → b ≡ true → ⊥
+not_both b h k = cc
+
+pub returns-then-not-is_serve-clause-output : goal.returns-then-not-is_serve-clause-output
+returns-then-not-is_serve-clause-output g c bytes before told gained _ _ _ =
+    let never : map string_bytes c.args.words.now ≢ serve_words = λ is. not_both _ c.if-not-is_serve.true (c.is_serve.ensures.1 is) in (
+      [],
+      record { usage = λ other. (refl, refl); serve = λ is. absurd (never is); too_long = λ is. absurd (never is) },
+      gained ∙ ap Some (sym (append-nil before)),
+    )
 
 pub returns-in-Ok-clause-output : goal.returns-in-Ok-clause-output
 returns-in-Ok-clause-output g c bytes before told gained =
