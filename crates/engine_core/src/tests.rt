@@ -13,7 +13,14 @@ fn expect_hash<E: Engine>(rt: &impl Abort, engine: &mut E, alg: Alg, text: &[u8]
     assert_eq!(rt; out, *want);
 }
 
-// The sixth case of RFC 4231.
+// The second case of RFC 4231.
+fn expect_short<E: Engine>(rt: &impl Abort, engine: &mut E, alg: Alg, want: &[u8; 64]) {
+    let mut out = [0; 64];
+    engine.mac(alg, b"Jefe", b"what do ya want for nothing?", &mut out);
+    assert_eq!(rt; out, *want);
+}
+
+// The sixth case of RFC 4231: a key longer than a block.
 fn expect_mac<E: Engine>(rt: &impl Abort, engine: &mut E, alg: Alg, want: &[u8; 64]) {
     let text = b"Test Using Larger Than Block-Size Key - Hash Key First";
     let mut out = [0; 64];
@@ -24,13 +31,16 @@ fn expect_mac<E: Engine>(rt: &impl Abort, engine: &mut E, alg: Alg, want: &[u8; 
 fn expect_standard<E: Engine>(rt: &impl Abort, engine: &mut E) {
     expect_hash(rt, engine, Alg::Sha256, b"", &rows::HASH_256_EMPTY);
     expect_hash(rt, engine, Alg::Sha256, b"abc", &rows::HASH_256_ABC);
-    expect_mac(rt, engine, Alg::Sha256, &rows::MAC_256);
+    expect_short(rt, engine, Alg::Sha256, &rows::MAC_256_SHORT_KEY);
+    expect_mac(rt, engine, Alg::Sha256, &rows::MAC_256_LONG_KEY);
     expect_hash(rt, engine, Alg::Sha384, b"", &rows::HASH_384_EMPTY);
     expect_hash(rt, engine, Alg::Sha384, b"abc", &rows::HASH_384_ABC);
-    expect_mac(rt, engine, Alg::Sha384, &rows::MAC_384);
+    expect_short(rt, engine, Alg::Sha384, &rows::MAC_384_SHORT_KEY);
+    expect_mac(rt, engine, Alg::Sha384, &rows::MAC_384_LONG_KEY);
     expect_hash(rt, engine, Alg::Sha512, b"", &rows::HASH_512_EMPTY);
     expect_hash(rt, engine, Alg::Sha512, b"abc", &rows::HASH_512_ABC);
-    expect_mac(rt, engine, Alg::Sha512, &rows::MAC_512);
+    expect_short(rt, engine, Alg::Sha512, &rows::MAC_512_SHORT_KEY);
+    expect_mac(rt, engine, Alg::Sha512, &rows::MAC_512_LONG_KEY);
 }
 
 // A value with bits of its first byte turned.
@@ -51,7 +61,7 @@ fn expect_faults(rt: &impl Abort, call: u8, bit: u8, mask: u8)
         let of_mac = if call == 1 { wrong } else { 0 };
         let hash = turned(&rows::HASH_384_ABC, of_hash);
         expect_hash(rt, &mut engine, Alg::Sha384, b"abc", &hash);
-        let mac = turned(&rows::MAC_512, of_mac);
+        let mac = turned(&rows::MAC_512_LONG_KEY, of_mac);
         expect_mac(rt, &mut engine, Alg::Sha512, &mac);
     }
 }
