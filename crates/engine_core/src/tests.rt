@@ -71,7 +71,7 @@ fn engines_answer_as_published(rt: HostRuntime) {
     expect_standard(&rt, &mut Shipped::new());
     expect_standard(&rt, &mut Faulty::new(9, 0, 7));
     expect_standard(&rt, &mut Faulty::new(0, 6, 7));
-    expect_standard(&rt, &mut Faulty::new(1, 3, 0));
+    expect_standard(&rt, &mut Faulty::new(1, 6, 0));
 }
 
 #[test]
