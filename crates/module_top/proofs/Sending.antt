@@ -1,5 +1,5 @@
 -- A part of two things that are written one behind the other.
-use Rattle.std.proofs.Common.{◌≡◌, ◌++◌, ◌<◌, ◌+◌, ℕ, List, length, take, drop, refl, ◌∙◌, ap, length-append, arith, Option}
+use Rattle.std.proofs.Common.{◌≡◌, ◌++◌, ◌+◌, ℕ, List, length, take, refl, ◌∙◌, length-append, arith, Option}
 use Rattle.std.proofs.lemmas.List.{take_at, drop_at, take-append-le}
 use Rattle.std.proofs.Math.Seq.{take-add}
 use Rattle.outside.specs.Contents.{Gains}

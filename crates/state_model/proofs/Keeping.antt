@@ -1,26 +1,22 @@
 -- A step keeps the rules.
-use Rattle.std.proofs.Common.{◌≡◌, ◌≢◌, ◌⊎◌, Bool, true, false, List, [], ℕ, Option, Some, None, refl, sym, ap, subst, ◌∙◌, length, arith, inl, inr, if◌then◌else◌}
+use Rattle.std.proofs.Common.{◌≡◌, Bool, true, false, List, ℕ, Option, Some, None, refl, ap, ◌∙◌, length, arith, if◌then◌else◌}
 use Rattle.std.specs.Prelude.{IfSome}
-use Rattle.std.specs.Option.{option_map_or}
-use Rattle.std.proofs.lemmas.Bool.Decides.{nat_tests}
 use Rattle.bits_core.specs.ByteList.{IsBytes}
 use Rattle.bits_core.specs.declared.parameter.Kind.TheVariants as kind
 use Rattle.service_table.specs.declared.service.Service.{Service}
 use Rattle.service_table.specs.declared.service.Service.TheVariants as service
-use Rattle.service_table.specs.declared.state.State.TheVariants as state
 use Rattle.service_table.specs.declared.status.Status.TheVariants as status
 use Rattle.service_table.specs.Numbers.{service_numbered}
 use Rattle.service_table.specs.Services.{is_permitted, is_approved}
 use Rattle.module_frames.specs.Requests.{Asked, IsInRange, request_of}
 use Rattle.module_frames.specs.Requests as asking
-use Rattle.ssp_slots.specs.Slots.{AreWellFormed}
 use Rattle.ssp_slots.proofs.WellFormedSlots.{AreWellFormed-empty}
 use Rattle.engine_core.specs.Calls.{Calls}
-use Rattle.crypto_services.specs.Core.{Core, Served, with_spent, hash_served, mac_served, mac_verify_served}
+use Rattle.crypto_services.specs.Core.{hash_served, mac_served, mac_verify_served}
 use Rattle.state_model.specs.Asking.{MayBeAsked}
 use Rattle.state_model.specs.MachineState.{MachineState, IsWellFormed, initial_state}
-use Rattle.state_model.specs.Step.{Stepped, step, asked, refused, ordered, done_for, StepsKeepTheRules, DataNeedsARole}
-use Rattle.state_model.proofs.Permitted.{off_for_power_on, testing_for_test_step, officer_for_entry_begin, entering_for_entry_bytes, role_for_hash, hash_for_mac}
+use Rattle.state_model.specs.Step.{step, asked, refused, ordered, done_for, StepsKeepTheRules}
+use Rattle.state_model.proofs.Permitted.{off_for_power_on, testing_for_test_step, officer_for_entry_begin, entering_for_entry_bytes, hash_for_mac}
 use Rattle.state_model.proofs.Rules.{power_on_kept, request_tests_kept, test_step_kept, select_role_kept, reset_kept, entry_begin_kept, entry_bytes_rules, entry_commit_kept, entry_abort_kept, zeroise_kept, zeroise_all_kept, served_kept, sourced_kept, spent_kept}
 use Rattle.state_model.proofs.Reading.{HasBytes, IsRead, request_read}
 

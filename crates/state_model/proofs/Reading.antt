@@ -8,7 +8,7 @@ use Rattle.bits_core.specs.ByteList.{IsBytes}
 use Rattle.bits_core.specs.declared.algorithm.Alg.{Alg}
 use Rattle.bits_core.specs.declared.parameter.Kind.{Kind}
 use Rattle.bits_core.specs.declared.parameter.Domain.{Domain}
-use Rattle.bits_core.specs.Algorithms.{alg_of, alg_size}
+use Rattle.bits_core.specs.Algorithms.{alg_of}
 use Rattle.bits_core.specs.Parameters.{kind_of, domain_of, length_fits}
 use Rattle.std.proofs.lemmas.List.{length-take-le}
 use Rattle.service_table.specs.declared.service.Service.{Service}

@@ -1,5 +1,5 @@
 -- What each service does keeps the rules.
-use Rattle.std.proofs.Common.{◌≡◌, ◌≢◌, ◌≤◌, ◌<◌, ◌+◌, ◌∙◌, ◌++◌, ◌⊎◌, ℕ, List, Bool, true, false, Option, Some, None, length, refl, sym, ap, subst, arith, inl, inr, if◌then◌else◌, take, drop}
+use Rattle.std.proofs.Common.{◌≡◌, ◌≢◌, ◌≤◌, ◌<◌, ◌+◌, ◌∙◌, ◌++◌, ℕ, List, Bool, true, false, Option, Some, None, length, refl, subst, arith, if◌then◌else◌, take, drop}
 use Rattle.std.specs.Prelude.{◌==◌, ◌&&◌, nat_le, nat_lt, not, is_some, IsTrue, MatchOption, IfSome, bytes_eq}
 use Rattle.std.specs.Option.{option_map_or}
 use Rattle.std.proofs.lemmas.Bool.Decides.{nat_tests}

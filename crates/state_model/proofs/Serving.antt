@@ -1,8 +1,6 @@
 -- What a service leaves.
-use Rattle.std.proofs.Common.{◌≡◌, true, false, List, [], ℕ, refl, ap, subst, ◌∙◌}
-use Rattle.service_table.specs.declared.service.Service.TheVariants as service
+use Rattle.std.proofs.Common.{◌≡◌, false, List, [], ℕ, refl, ap, subst, ◌∙◌}
 use Rattle.service_table.specs.declared.status.Status.TheVariants as status
-use Rattle.service_table.specs.Services.{is_permitted}
 use Rattle.module_frames.specs.PublicState.{no_block}
 use Rattle.ssp_slots.specs.Slots.{AreWellFormed}
 use Rattle.crypto_services.specs.declared.outcome.Outcome.{Outcome}
@@ -11,7 +9,7 @@ use Rattle.crypto_services.specs.Core.{Core, Served}
 use Rattle.crypto_services.specs.Serves.{core_of, Serves}
 use Rattle.state_model.specs.Kept.{Kept}
 use Rattle.state_model.specs.MachineState.{MachineState}
-use Rattle.state_model.specs.Represents.{machine_of, Represents, Leaves}
+use Rattle.state_model.specs.Represents.{Represents, Leaves}
 use Rattle.state_model.specs.Step.{used, served, done}
 use Rattle.state_model.proofs.Rules.{core_kept}
 

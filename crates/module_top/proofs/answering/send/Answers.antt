@@ -1,4 +1,4 @@
-use Rattle.std.proofs.Common.{◌++◌, subst, rules, List, ℕ}
+use Rattle.std.proofs.Common.{subst}
 use Rattle.outside.specs.Contents.{Gains}
 use Rattle.module_frames.specs.Replies.{frame_of}
 use Rattle.module_frames.specs.ReplyFrames.{reply_header, reply_spelling}

@@ -1,4 +1,4 @@
-use Rattle.std.proofs.Common.{◌≡◌, refl, ap, ◌∙◌}
+use Rattle.std.proofs.Common.{ap}
 use Rattle.bits_core.specs.Shown.{Shown}
 use Rattle.state_model.proofs.Serving.{done_leaves}
 use Rattle.state_model.proofs.module.Module.answer.Goals.{in-PowerOn, in-TestStep, in-RequestTests, in-ShowStatus, in-ShowVersion, in-SelectRole, in-Reset, in-EntryBegin, in-EntryAbort, in-Zeroise, in-ZeroiseAll, in-ShowSlot}
