@@ -1,6 +1,6 @@
 -- What a service leaves.
-use Rattle.std.proofs.Common.{◌≡◌, false, List, [], ℕ, refl, ap, subst, ◌∙◌}
-use Rattle.service_table.specs.declared.status.Status.TheVariants as status
+use Rattle.std.proofs.Common.{◌≡◌, false, List, [], ℕ, refl, sym, ap, subst, ◌∙◌}
+use Rattle.service_table.specs.declared.status.Status.{Status}
 use Rattle.module_frames.specs.PublicState.{no_block}
 use Rattle.ssp_slots.specs.Slots.{AreWellFormed}
 use Rattle.crypto_services.specs.declared.outcome.Outcome.{Outcome}
@@ -9,8 +9,8 @@ use Rattle.crypto_services.specs.Core.{Core, Served}
 use Rattle.crypto_services.specs.Serves.{core_of, Serves}
 use Rattle.state_model.specs.Kept.{Kept}
 use Rattle.state_model.specs.MachineState.{MachineState}
-use Rattle.state_model.specs.Represents.{Represents, Leaves}
-use Rattle.state_model.specs.Step.{used, served, done}
+use Rattle.state_model.specs.Represents.{Represents, Leaves, LeavesUnused}
+use Rattle.state_model.specs.Step.{Stepped, used, served}
 use Rattle.state_model.proofs.Rules.{core_kept}
 
 -- a cryptographic service, once its use is counted
@@ -34,14 +34,14 @@ served_leaves {V} s m after did parts outcome payload represents serves slots co
       same_payload = serves.same_payload;
     }
 
--- a service was done that is no cryptographic one
-pub done_leaves : {V : Type 0} (t : MachineState V) (after : Kept V) (outcome : Outcome) (block payload told : List ℕ) → Represents after t
-    → outcome ≡ record { status = status.Ok; code = 0; approved = false } → block ≡ told → payload ≡ [] → Leaves (done t told) after outcome block payload
-done_leaves t after outcome block payload told represents is tells none = record {
-  represents = represents;
-  same_status = ap (λ (o : Outcome). o.status) is;
-  same_indicator = ap (λ (o : Outcome). o.approved) is;
+-- what is answered where no cryptographic service was done
+pub unused_leaves : {V : Type 0} (step : Stepped V) (after : Kept V) (why : Status) (outcome : Outcome) (block payload : List ℕ) → LeavesUnused step after why block
+    → outcome ≡ record { status = why; code = 0; approved = false } → payload ≡ [] → Leaves step after outcome block payload
+unused_leaves step after why outcome block payload leaves is none = record {
+  represents = leaves.represents;
+  same_status = ap (λ (o : Outcome). o.status) is ∙ leaves.same_status;
+  same_indicator = ap (λ (o : Outcome). o.approved) is ∙ sym leaves.no_indicator;
   no_code = ap (λ (o : Outcome). o.code) is;
-  same_block = tells;
-  same_payload = none;
+  same_block = leaves.same_block;
+  same_payload = none ∙ sym leaves.no_payload;
 }

@@ -1,7 +1,6 @@
 -- The bridge between a module and the machine.
 use Rattle.std.specs.Prelude.{◌≡◌, ℕ, false, List, []}
 use Rattle.service_table.specs.declared.status.Status.{Status}
-use Rattle.module_frames.specs.PublicState.{no_block}
 use Rattle.module_frames.specs.declared.reply.Reply.{Reply}
 use Rattle.module_frames.specs.CommandFrames.{CommandFrame}
 use Rattle.module_frames.specs.Replies.{frame_of}
@@ -27,13 +26,13 @@ pub record Leaves {V : Type 0} (after : Stepped V) (m : Kept V) (outcome : Outco
   pub same_block : block ≡ after.block
   pub same_payload : payload ≡ after.payload
 
--- the module and the status are those of a step that gives no data, tells nothing and is no cryptographic service
-pub record LeavesUnused {V : Type 0} (after : Stepped V) (m : Kept V) (why : Status) : Type 0 where
+-- the module, the status and the block are those of a step that is no cryptographic service: it gives no data
+pub record LeavesUnused {V : Type 0} (after : Stepped V) (m : Kept V) (why : Status) (block : List ℕ) : Type 0 where
   pub represents : Represents m after.machine
   pub same_status : why ≡ after.status
-  pub same_indicator : after.approved ≡ false
-  pub same_block : after.block ≡ no_block
-  pub same_payload : after.payload ≡ []
+  pub same_block : block ≡ after.block
+  pub no_indicator : after.approved ≡ false
+  pub no_payload : after.payload ≡ []
 
 -- the module and the reply are those of a step for the command
 pub record Replies {V : Type 0} (command : CommandFrame) (after : Stepped V) (m : Kept V) (reply : Reply) : Type 0 where

@@ -1,7 +1,7 @@
 // The module: private fields, and one public call for a command.
 ghost use Rattle.std.specs.Prelude.{◌≡◌, ◌≤◌, ◌<◌, [], true, false, length, IfOk, IsTrue};
-ghost use Rattle.service_table.specs.Services.{is_permitted};
-ghost use Rattle.module_frames.specs.Requests.{asked_of, IsInRange};
+ghost use Rattle.service_table.specs.Services.{is_permitted, is_cryptographic};
+ghost use Rattle.module_frames.specs.Requests.{asked_of, service_for, IsInRange};
 ghost use Rattle.module_frames.specs.PublicState.{status_block, no_block};
 ghost use Rattle.bits_core.specs.Algorithms.{alg_size};
 ghost use Rattle.bits_core.specs.Parameters.{length_fits};
@@ -20,7 +20,7 @@ use bits_core::{Alg, Enabled, Header, Inhibited, Outbox, Port, SlotId};
 use crypto_services::{Outcome, Parts, hash, mac, mac_verify};
 use engine_core::Engine;
 use module_frames::{Command, Reply, Request, read_request};
-use service_table::{Service, State, Status, permitted, service_of};
+use service_table::{Service, State, Status, is_cryptographic, permitted, service_of};
 use std::alloc::{AllocError, Global};
 use std::marker::Model;
 
@@ -200,7 +200,7 @@ impl<E: Engine> Module<E> {
     // EntryBytes: the piece is appended, unless it would pass the parameter's length.
     fn entry_bytes(&mut self, piece: &[u8]) -> Status
         requires { self.old.state ≡ State.Entry }
-        ensures { (s : MachineState E) → Represents self.old s → LeavesUnused (entry_bytes s piece.now) self.new result }
+        ensures { (s : MachineState E) → Represents self.old s → LeavesUnused (entry_bytes s piece.now) self.new result no_block }
     {
         if piece.len() > self.entry.length() - self.entry.filled {
             return Status::BadLength;
@@ -212,7 +212,7 @@ impl<E: Engine> Module<E> {
     // EntryCommit: the slot holds what was entered, where the commit isn't refused; the entry is wiped.
     fn entry_commit(&mut self, check: &[u8]) -> Status
         requires { self.old.state ≡ State.Entry }
-        ensures { (s : MachineState E) → Represents self.old s → LeavesUnused (entry_commit E.calls s check.now) self.new result }
+        ensures { (s : MachineState E) → Represents self.old s → LeavesUnused (entry_commit E.calls s check.now) self.new result no_block }
     {
         let status = match &self.entry.target {
             Some(target) => {
@@ -351,20 +351,51 @@ impl<E: Engine> Module<E> {
         outcome
     }
 
-    // Does what is asked, and fills the block and the payload.
-    fn answer(
-        &mut self,
-        request: Request<'_>,
-        block: &mut [u8; 12],
-        payload: &mut Outbox,
-    ) -> Outcome
-        requires block { block.old ≡ no_block }
+    // Does a cryptographic service, with a port over the payload that adds bytes only where the service gives data.
+    fn serve(&mut self, request: Request<'_>, payload: &mut Outbox) -> Outcome
         requires payload { payload.old ≡ holding [] 65664 }
         requires in_range { IsInRange (asked_of request) }
+        requires cryptographic { is_cryptographic (service_for (asked_of request)) ≡ true }
         requires permitted { MayBeAsked (asked_of request) self.old.state }
         ensures answer { (s : MachineState E) → Represents self.old s →
-            Leaves (done_for E.calls s (asked_of request.entry)) self.new result block.new payload.new.bytes }
+            Leaves (done_for E.calls s (asked_of request.entry)) self.new result no_block payload.new.bytes }
         ensures room { payload.new.room ≡ 65664 }
+    {
+        match request {
+            Request::Hash { alg, text } => {
+                let mut port = Port::<Enabled>::over(payload);
+                self.hash(alg, text, &mut port)
+            }
+            Request::Mac {
+                slot,
+                alg,
+                length,
+                text,
+            } => {
+                let mut port = Port::<Enabled>::over(payload);
+                self.mac(slot, alg, length, text, &mut port)
+            }
+            Request::MacVerify {
+                slot,
+                alg,
+                tag,
+                text,
+            } => {
+                let mut port = Port::<Inhibited>::over(payload);
+                self.mac_verify(slot, alg, tag, text, &mut port)
+            }
+            _ => unreachable!(),
+        }
+    }
+
+    // Does any other service, and fills the block.
+    fn manage(&mut self, request: Request<'_>, block: &mut [u8; 12]) -> Status
+        requires block { block.old ≡ no_block }
+        requires in_range { IsInRange (asked_of request) }
+        requires other { is_cryptographic (service_for (asked_of request)) ≡ false }
+        requires permitted { MayBeAsked (asked_of request) self.old.state }
+        ensures { (s : MachineState E) → Represents self.old s →
+            LeavesUnused (done_for E.calls s (asked_of request.entry)) self.new result block.new }
     {
         match request {
             Request::PowerOn { period } => self.power_on(period),
@@ -383,36 +414,15 @@ impl<E: Engine> Module<E> {
                 header,
                 length,
             }),
-            Request::EntryBytes { piece } => return unused(self.entry_bytes(piece)),
-            Request::EntryCommit { check } => return unused(self.entry_commit(check)),
+            Request::EntryBytes { piece } => return self.entry_bytes(piece),
+            Request::EntryCommit { check } => return self.entry_commit(check),
             Request::EntryAbort => self.entry_abort(),
             Request::Zeroise { slot } => self.zeroise(slot),
             Request::ZeroiseAll => self.zeroise_all(),
             Request::ShowSlot { slot } => self.show_slot(slot, block),
-            Request::Hash { alg, text } => {
-                let mut port = Port::<Enabled>::over(payload);
-                return self.hash(alg, text, &mut port);
-            }
-            Request::Mac {
-                slot,
-                alg,
-                length,
-                text,
-            } => {
-                let mut port = Port::<Enabled>::over(payload);
-                return self.mac(slot, alg, length, text, &mut port);
-            }
-            Request::MacVerify {
-                slot,
-                alg,
-                tag,
-                text,
-            } => {
-                let mut port = Port::<Inhibited>::over(payload);
-                return self.mac_verify(slot, alg, tag, text, &mut port);
-            }
+            _ => unreachable!(),
         }
-        unused(Status::Ok)
+        Status::Ok
     }
 
     // Walks the one order, and does what is asked where the command passes.
@@ -437,7 +447,10 @@ impl<E: Engine> Module<E> {
         let Some(request) = read_request(service, command.body()) else {
             return unused(Status::BadBody);
         };
-        self.answer(request, block, payload)
+        if is_cryptographic(service) {
+            return self.serve(request, payload);
+        }
+        unused(self.manage(request, block))
     }
 
     /// One step of the machine: does what the command asks where the order lets it pass, and fills the reply.

@@ -30,9 +30,9 @@ returns g c s represents =
     let here : machine_of after ≡ record m { entry = with_piece m.entry c.args.piece.now } = rw c.append.ensures refl in
     let there : Represents after (record m { entry = with_piece m.entry c.args.piece.now }) =
     record { same = here; sound = entry_bytes_kept m c.args.piece.now are_bytes c.self.invariant entering fits } in
-    let leaves : LeavesUnused (done (record m { entry = with_piece m.entry c.args.piece.now }) no_block) after status.Ok =
-    record { represents = there; same_status = refl; same_indicator = refl; same_block = refl; same_payload = refl } in
-    let stepped : LeavesUnused (entry_bytes m c.args.piece.now) after status.Ok =
-    subst (λ t. LeavesUnused t after status.Ok) (entry_bytes_fits m c.args.piece.now fits) leaves in
+    let leaves : LeavesUnused (done (record m { entry = with_piece m.entry c.args.piece.now }) no_block) after status.Ok no_block =
+    record { represents = there; same_status = refl; same_block = refl; no_indicator = refl; no_payload = refl } in
+    let stepped : LeavesUnused (entry_bytes m c.args.piece.now) after status.Ok no_block =
+    subst (λ t. LeavesUnused t after status.Ok no_block) (entry_bytes_fits m c.args.piece.now fits) leaves in
     let same : m ≡ s = ap machine_of c.self.view_is ∙ represents.same in
-    subst (λ t. LeavesUnused (entry_bytes t c.args.piece.now) after status.Ok) same stepped
+    subst (λ t. LeavesUnused (entry_bytes t c.args.piece.now) after status.Ok no_block) same stepped

@@ -6,6 +6,7 @@ use Rattle.state_model.specs.Kept.{Kept}
 use Rattle.state_model.specs.MachineState.{MachineState}
 use Rattle.state_model.specs.Represents.{Represents}
 use Rattle.state_model.proofs.Order.{step_unknown, step_not_permitted, step_asked, refused_leaves}
+use Rattle.state_model.proofs.Serving.{unused_leaves}
 use Rattle.state_model.proofs.module.Module.outcome_of.Goals as goal
 
 -- the state of a module is the machine's
@@ -30,9 +31,16 @@ returns-in_default-read_request-clause-answer g c s represents =
     let bad = rw c.body.ensures.body at (sym c.read_request.ensures.read ∙ ap (option_map asked_of) c.in_default-read_request.is) in
     rw (step_asked g.E.Engine.calls s c.args.command.now c.in-Some.service known leave, bad) (refused_leaves c.args.self.now s _ _ c.args.block.now _ represents c.unused-in_default-read_request.ensures c.requires.block (ap (λ (shown : Shown). shown.bytes) c.requires.payload))
 
+pub returns-then-is_cryptographic-clause-answer : goal.returns-then-is_cryptographic-clause-answer
+returns-then-is_cryptographic-clause-answer g c s represents =
+    let known = rw c.service.ensures at (sym c.service_of.ensures ∙ c.in-Some.is) in
+    let leave = rw (same_state c.self.view_is represents) at (sym c.permitted.ensures ∙ c.if-not-permitted.false) in
+    let good = rw c.body.ensures.body at (sym c.read_request.ensures.read ∙ ap (option_map asked_of) c.in-Some-read_request.is) in
+    rw (step_asked g.E.Engine.calls s c.args.command.now c.in-Some.service known leave, good, c.requires.block) (c.serve.ensures.answer s represents)
+
 pub returns-clause-answer : goal.returns-clause-answer
 returns-clause-answer g c s represents =
     let known = rw c.service.ensures at (sym c.service_of.ensures ∙ c.in-Some.is) in
     let leave = rw (same_state c.self.view_is represents) at (sym c.permitted.ensures ∙ c.if-not-permitted.false) in
     let good = rw c.body.ensures.body at (sym c.read_request.ensures.read ∙ ap (option_map asked_of) c.in-Some-read_request.is) in
-    rw (step_asked g.E.Engine.calls s c.args.command.now c.in-Some.service known leave, good) (c.answer.ensures.answer s represents)
+    rw (step_asked g.E.Engine.calls s c.args.command.now c.in-Some.service known leave, good) (unused_leaves _ _ _ _ _ _ (c.manage.ensures s represents) c.unused-2.ensures (ap (λ (shown : Shown). shown.bytes) c.requires.payload))
