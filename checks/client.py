@@ -27,7 +27,7 @@ REPLIES = "".join(reply for _, reply in TALK)
 # What the first of several reasons for a refusal is.
 FIRST_REFUSALS = [
     # an unknown service, before the state and the body
-    ("c5010a0000000000", "5c010a010000000000000000000000000000000000000000"),
+    ("c5010f0000000000", "5c010f010000000000000000000000000000000000000000"),
     ("c5017e0000000001ff", "5c017e010000000000000000000000000000000000000000"),
     ("c501000000000000", "5c0100010000000000000000000000000000000000000000"),
     ("c501ff0000000000", "5c01ff010000000000000000000000000000000000000000"),
@@ -101,6 +101,61 @@ ENTRY = [
     ("c501080000000009030300000000006404", "5c0108020500000000000000000000000000000000000000"),
 ]
 
+# From Approved with period 3: a parameter is committed and used, and each third use makes tests due.
+COMMIT = [
+    ("c50106000000000101", "5c0106000400000000000000000000000000000000000000"),
+    # the MAC key "Jefe" for slot 3, of the domain Other, with 100 uses: a wrong check value, and the slot is empty
+    ("c501080000000009030300000000006404", "5c0108000600000000000000000000000000000000000000"),
+    ("c5010900000000044a656665", "5c0109000600000000000000000000000000000000000000"),
+    ("c5010a00000000085f8fa0da1550a5ad", "5c010a0d0400000000000000000000000000000000000000"),
+    ("c5010e000000000103", "5c010e000400000000000000000000000000000000000000"),
+    # a byte is missing
+    ("c501080000000009030300000000006404", "5c0108000600000000000000000000000000000000000000"),
+    ("c5010900000000034a6566", "5c0109000600000000000000000000000000000000000000"),
+    ("c5010a00000000085f8fa0da1550a5ac", "5c010a0c0400000000000000000000000000000000000000"),
+    # the right check value, after one of seven bytes, and the slot is full
+    ("c501080000000009030300000000006404", "5c0108000600000000000000000000000000000000000000"),
+    ("c5010900000000044a656665", "5c0109000600000000000000000000000000000000000000"),
+    ("c5010a00000000075f8fa0da1550a5", "5c010a030600000000000000000000000000000000000000"),
+    ("c5010a00000000085f8fa0da1550a5ac", "5c010a000400000000000000000000000000000000000000"),
+    ("c5010e000000000103", "5c010e000400000001030000040000000000006400000000"),
+    # a full slot takes no other
+    ("c501080000000009030300000000006404", "5c0108000600000000000000000000000000000000000000"),
+    ("c5010900000000044a656665", "5c0109000600000000000000000000000000000000000000"),
+    ("c5010a00000000085f8fa0da1550a5ac", "5c010a0a0400000000000000000000000000000000000000"),
+    # the officer makes no MAC
+    ("c501110000000003030120", "5c0111020400000000000000000000000000000000000000"),
+]
+
+# "what do ya want for nothing?", its MAC under "Jefe", and the digest of "abc", with SHA-256
+QUESTION = "7768617420646f2079612077616e7420666f72206e6f7468696e673f"
+JEFE_MAC = "5bdcc146bf60754e6a042426089575c75a003f089d2739839dec58b964ec3843"
+ABC_DIGEST = "ba7816bf8f01cfea414140de5dae2223b00361a396177a9cb410ff61f20015ad"
+
+# From Officer, with that slot full.
+USE = [
+    ("c50106000000000102", "5c0106000500000000000000000000000000000000000000"),
+    # the digest of "abc" with SHA-256
+    ("c50110000000000401616263", "5c0110000501000000000000000000000000000000000020" + ABC_DIGEST),
+    # its MAC with SHA-256
+    ("c50111000000001f030120" + QUESTION, "5c0111000500000000000000000000000000000000000020" + JEFE_MAC),
+    # two uses are counted, and the third makes tests due
+    ("c501040000000000", "5c0104000500000000000000000000030000000200000000"),
+    ("c50112000000003f030120" + JEFE_MAC + QUESTION, "5c0112000200000000000000000000000000000000000000"),
+    ("c50110000000000401616263", "5c0110020200000000000000000000000000000000000000"),
+    ("c501020000000000", "5c0102000200000000000000000000000000000000000000"),
+    ("c501020000000000", "5c0102000200000000000000000000000000000000000000"),
+    ("c501020000000000", "5c0102000500000000000000000000000000000000000000"),
+    # the first four bytes of the MAC, and the same with one bit turned
+    ("c5011200000000230301045bdcc146" + QUESTION, "5c0112000500000000000000000000000000000000000000"),
+    ("c5011200000000230301045bdcc147" + QUESTION, "5c01120e0500000000000000000000000000000000000000"),
+    # four uses are spent, and a MAC under an empty slot counts for the period too
+    ("c5010e000000000103", "5c010e000500000001030000040000000000006000000000"),
+    ("c501110000000003040120", "5c0111060200000000000000000000000000000000000000"),
+    # Reset empties the slot
+    ("c501070000000000", "5c0107000100000000000000000000000000000000000000"),
+]
+
 USAGE = b"usage: serve\n"
 BAD_FRAME = b"bad frame\n"
 TRUNCATED = b"truncated frame\n"
@@ -119,7 +174,8 @@ def too_late(*_):
 
 
 def shown(bytes_or_text):
-    return bytes_or_text.hex() if isinstance(bytes_or_text, bytes) and len(bytes_or_text) % 24 == 0 else repr(bytes_or_text)
+    is_replies = isinstance(bytes_or_text, bytes) and bytes_or_text[:1] in (b"", b"\x5c")
+    return bytes_or_text.hex() if is_replies else repr(bytes_or_text)
 
 
 def expect(what, got, wanted):
@@ -166,7 +222,9 @@ class Talk:
     def ask(self, command, reply):
         """Sends a command, and expects its reply while standard input stays open."""
         self.send(command)
-        expect(f"reply to {command}", self.receive(24), bytes.fromhex(reply))
+        header = self.receive(24)
+        payload = self.receive(int.from_bytes(header[20:], "big"))
+        expect(f"reply to {command}", header + payload, bytes.fromhex(reply))
 
     def close_output(self):
         self.ran.stdout.close()
@@ -252,6 +310,12 @@ def tests_and_roles():
 
 def entering():
     one_after_the_other(TO_APPROVED, ENTRY)
+
+
+def committing():
+    one_after_the_other(TO_APPROVED, COMMIT, USE)
+    commands, replies = ("".join(parts) for parts in zip(*TO_APPROVED, *COMMIT, *USE))
+    answers(commands, replies)
 
 
 def longest_body():
@@ -358,6 +422,7 @@ CASES = [
     first_refusal_decides,
     tests_and_roles,
     entering,
+    committing,
     longest_body,
     bad_frames,
     truncated_frames,
