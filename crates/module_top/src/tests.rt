@@ -33,12 +33,17 @@ fn words_of(alloc: Global, words: &[&str]) -> Result<Vec<String>, Fail> {
 }
 
 // Runs the program over these bytes, which come so many at a time.
-fn outcome(alloc: Global, words: &[&str], bytes: &[u8], step: usize) -> Result<(u8, MemSink), Fail>
+pub(crate) fn outcome(
+    alloc: Global,
+    words: &[&str],
+    bytes: &[u8],
+    step: usize,
+) -> Result<(u8, MemSink), Fail>
     requires { 1 ≤ step }
 {
     let words = words_of(alloc, words)?;
     let mut commands = MemSource::new(bytes.to_vec(alloc)?, step, Vec::new(alloc));
-    let mut replies = MemSink::new(alloc, 2_000, 24, Vec::new(alloc))?;
+    let mut replies = MemSink::new(alloc, 4_000, 24, Vec::new(alloc))?;
     let status = run(alloc, &words, &mut commands, &mut replies, Shipped::new());
     Ok((status, replies))
 }
@@ -343,7 +348,7 @@ const DIALOGUE: [(&[u8], u8, u8, [u8; 12]); 21] = [
     (TEST_STEP, 2, 1, [0; 12]),
 ];
 
-fn reply_to(command: &[u8], status: u8, state: u8, block: &[u8; 12]) -> [u8; 24] {
+pub(crate) fn reply_to(command: &[u8], status: u8, state: u8, block: &[u8; 12]) -> [u8; 24] {
     let mut reply = [0; 24];
     reply[0] = 0x5c;
     reply[1] = 0x01;
@@ -444,13 +449,13 @@ const ENTERING: [(&[u8], u8, u8); 30] = [
 
 // A stream, and the replies to it.
 #[derive(Drop)]
-struct Dialogue {
-    stream: Vec<u8>,
-    want: Vec<u8>,
+pub(crate) struct Dialogue {
+    pub(crate) stream: Vec<u8>,
+    pub(crate) want: Vec<u8>,
 }
 
 impl Dialogue {
-    fn new(alloc: Global) -> Dialogue {
+    pub(crate) fn new(alloc: Global) -> Dialogue {
         Dialogue {
             stream: Vec::new(alloc),
             want: Vec::new(alloc),
@@ -466,14 +471,19 @@ impl Dialogue {
         Ok(())
     }
 
-    // A body of fewer than 256 bytes.
-    fn ask(&mut self, service: u8, body: &[u8], status: u8, state: u8) -> Result<(), Fail> {
+    // A command with a body of fewer than 256 bytes.
+    pub(crate) fn command(&mut self, service: u8, body: &[u8]) -> Result<(), Fail> {
         let length = u8::try_from(body.len()).ok().ok_or("a short body")?;
-        let head = [0xc5, 0x01, service, 0, 0, 0, 0, length];
-        self.stream.extend_from_slice(&head)?;
+        self.stream
+            .extend_from_slice(&[0xc5, 0x01, service, 0, 0, 0, 0, length])?;
         self.stream.extend_from_slice(body)?;
-        self.want
-            .extend_from_slice(&reply_to(&head, status, state, &[0; 12]))?;
+        Ok(())
+    }
+
+    fn ask(&mut self, service: u8, body: &[u8], status: u8, state: u8) -> Result<(), Fail> {
+        self.command(service, body)?;
+        let reply = reply_to(&[0xc5, 0x01, service], status, state, &[0; 12]);
+        self.want.extend_from_slice(&reply)?;
         Ok(())
     }
 }
