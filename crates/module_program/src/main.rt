@@ -1,6 +1,13 @@
 //! The program: the words after its name, standard input and standard output, and the exit status.
 #![tactic(auto)]
 
+#[cfg(test)]
+mod service_rows;
+#[cfg(test)]
+mod service_tests;
+#[cfg(test)]
+mod tests;
+
 use engine_core::Shipped;
 use module_top::{RunFault, run};
 use outside::{StdSink, StdSource};

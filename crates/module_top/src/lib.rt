@@ -5,10 +5,6 @@ mod answering;
 mod faults;
 mod laws;
 mod running;
-#[cfg(test)]
-mod service_rows;
-#[cfg(test)]
-mod service_tests;
 mod serving;
 #[cfg(test)]
 mod tests;
