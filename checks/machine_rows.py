@@ -56,6 +56,7 @@ print("//! Written by `checks/machine_rows.py` with Python's hashlib and hmac.\n
 for _, short, long in ALGS:
     for name, text in TEXTS:
         row(f"HASH_{short}_{name}", hashlib.new(long, text).digest())
+row("HASH_256_ABC_TURNED", turned(hashlib.sha256(b"abc").digest(), 0))
 for name, slot, kind, domain, uses, parameter in ENTRIES:
     body = beginning(slot, kind, domain, uses, parameter)
     row(f"{name}_BEGIN", body)

@@ -3,13 +3,14 @@ ghost use Rattle.std.specs.Prelude.{◌≤◌};
 
 use crate::service_rows::{
     CIPHER_BEGIN, CIPHER_BYTES, CIPHER_CHECK, FOURTEEN_BEGIN, FOURTEEN_BYTES, FOURTEEN_CHECK,
-    HASH_256_ABC, HASH_256_EMPTY, HASH_384_ABC, HASH_384_EMPTY, HASH_512_ABC, HASH_512_EMPTY,
-    JEFE_BEGIN, JEFE_BYTES, JEFE_CHECK, JEFE_TURNED, LASTING_BEGIN, LASTING_BYTES, LASTING_CHECK,
-    MAC_256, MAC_384, MAC_512, MAC_FOURTEEN_4, ONCE_BEGIN, ONCE_BYTES, ONCE_CHECK, VERIFY_256,
-    VERIFY_256_FIRST_4, VERIFY_256_OTHER, VERIFY_256_TURNED, VERIFY_384, VERIFY_384_TURNED,
-    VERIFY_512, VERIFY_512_TURNED, VERIFY_LASTING_4, VERIFY_LASTING_4_TURNED,
+    HASH_256_ABC, HASH_256_ABC_TURNED, HASH_256_EMPTY, HASH_384_ABC, HASH_384_EMPTY, HASH_512_ABC,
+    HASH_512_EMPTY, JEFE_BEGIN, JEFE_BYTES, JEFE_CHECK, JEFE_TURNED, LASTING_BEGIN, LASTING_BYTES,
+    LASTING_CHECK, MAC_256, MAC_384, MAC_512, MAC_FOURTEEN_4, ONCE_BEGIN, ONCE_BYTES, ONCE_CHECK,
+    VERIFY_256, VERIFY_256_FIRST_4, VERIFY_256_OTHER, VERIFY_256_TURNED, VERIFY_384,
+    VERIFY_384_TURNED, VERIFY_512, VERIFY_512_TURNED, VERIFY_LASTING_4, VERIFY_LASTING_4_TURNED,
 };
-use crate::tests::{Dialogue, outcome, reply_to};
+use crate::tests::{Dialogue, outcome, outcome_over, reply_to};
+use engine_core::Faulty;
 use outside::MemSink;
 use std::alloc::Global;
 use std::test::Fail;
@@ -601,5 +602,37 @@ fn keeps_nothing_through_a_reset(rt: HostRuntime) -> Result<(), Fail> {
     let (status, replies) = outcome(rt.alloc(), &["serve"], &dialogue.stream, 7)?;
     assert_eq!(rt; status, 0);
     assert_eq!(rt; replies.bytes(), dialogue.want.as_slice());
+    Ok(())
+}
+
+// Digests that are wrong from the second one on.
+const WRONG_DIGESTS: [Row<'static>; 3] = [
+    USER,
+    (0x10, b"\x01abc", 0, 5, (1, NO_BLOCK, &HASH_256_ABC)),
+    (0x10, b"\x01abc", 0, 5, (1, NO_BLOCK, &HASH_256_ABC_TURNED)),
+];
+
+// MACs that are always wrong.
+const WRONG_MACS: [Row<'static>; 5] = [
+    OFFICER,
+    JEFE_BEGUN,
+    (0x09, &JEFE_BYTES, 0, 6, NOTHING),
+    (0x0a, &JEFE_CHECK, 13, 4, NOTHING),
+    (0x0e, &[3], 0, 4, NOTHING),
+];
+
+#[test]
+fn hands_on_what_an_engine_answers(rt: HostRuntime) -> Result<(), Fail> {
+    for (engine, rows) in [
+        (Faulty::new(0, 1, 0), WRONG_DIGESTS.as_slice()),
+        (Faulty::new(1, 0, 7), WRONG_MACS.as_slice()),
+    ] {
+        let mut dialogue = Dialogue::new(rt.alloc());
+        play(&mut dialogue, &UP)?;
+        play(&mut dialogue, rows)?;
+        let (status, replies) = outcome_over(rt.alloc(), engine, &["serve"], &dialogue.stream, 9)?;
+        assert_eq!(rt; status, 0);
+        assert_eq!(rt; replies.bytes(), dialogue.want.as_slice());
+    }
     Ok(())
 }

@@ -1,7 +1,7 @@
 // Whole runs of the program: worked dialogues, streams that are cut or broken, and calls that fail.
 ghost use Rattle.std.specs.Prelude.{◌≤◌};
 
-use engine_core::Shipped;
+use engine_core::{Engine, Shipped};
 use module_top::run;
 use outside::{MemSink, MemSource};
 use std::alloc::Global;
@@ -37,10 +37,23 @@ pub(crate) fn outcome(
 ) -> Result<(u8, MemSink), Fail>
     requires { 1 ≤ step }
 {
+    outcome_over(alloc, Shipped::new(), words, bytes, step)
+}
+
+// The same over an engine.
+pub(crate) fn outcome_over<E: Engine>(
+    alloc: Global,
+    engine: E,
+    words: &[&str],
+    bytes: &[u8],
+    step: usize,
+) -> Result<(u8, MemSink), Fail>
+    requires { 1 ≤ step }
+{
     let words = words_of(alloc, words)?;
     let mut commands = MemSource::new(bytes.to_vec(alloc)?, step, Vec::new(alloc));
     let mut replies = MemSink::new(alloc, 4_000, 24, Vec::new(alloc))?;
-    let status = run(alloc, &words, &mut commands, &mut replies, Shipped::new());
+    let status = run(alloc, &words, &mut commands, &mut replies, engine);
     Ok((status, replies))
 }
 
