@@ -1,15 +1,9 @@
 #!/usr/bin/env bash
-# Times the proved `serve` on Hash commands (SHA-256) over texts of 64 KiB, a thousand or as many as the first word says, beside
+# Times the proved `serve` on Hash commands (SHA-256) over texts of 64 KiB, four thousand or as many as the first word says, beside
 # Python's hashlib over the same texts in the same run. Of three runs the shortest counts.
 set -eu
-cd "$(dirname "$0")/.."
-count=${1:-1000}
-./warlinden serve </dev/null
-program=$PWD/crates/module_program/out/module_program
-
-room=$(mktemp -d)
-trap 'rm -rf "$room"' EXIT
-cd "$room"
+count=${1:-4000}
+. "$(dirname "$0")/served.sh"
 python3 - "$count" <<'END'
 import sys
 
@@ -29,16 +23,6 @@ with open("commands", "rb") as all:
     while all.read(9):
         sys.stdout.buffer.write(hashlib.sha256(all.read(65_536)).digest())
 END
-
-# least COMMAND..: the shortest time of three runs, in seconds
-least() {
-    local best='' taken TIMEFORMAT=%R
-    for _ in 1 2 3; do
-        taken=$({ time "$@" <commands >replies; } 2>&1)
-        best=$(printf '%s\n' $best "$taken" | sort -n | head -n 1)
-    done
-    echo "$best"
-}
 
 serve=$(least "$program" serve)
 tail -c 32 replies >digest

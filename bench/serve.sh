@@ -3,14 +3,8 @@
 # on the same bytes in the same run.
 # Each reads a file and writes a file; of three runs the shortest counts.
 set -eu
-cd "$(dirname "$0")/.."
 count=${1:-1000000}
-./warlinden serve </dev/null
-program=$PWD/crates/module_program/out/module_program
-
-room=$(mktemp -d)
-trap 'rm -rf "$room"' EXIT
-cd "$room"
+. "$(dirname "$0")/served.sh"
 printf '\xc5\x01\x04\x00\x00\x00\x00\x00' >commands
 while [ "$(wc -c <commands)" -lt $((8 * count)) ]; do
     cat commands commands >doubled
@@ -18,16 +12,6 @@ while [ "$(wc -c <commands)" -lt $((8 * count)) ]; do
 done
 head -c $((8 * count)) commands >doubled
 mv doubled commands
-
-# least COMMAND..: the shortest time of three runs, in seconds
-least() {
-    local best='' taken TIMEFORMAT=%R
-    for _ in 1 2 3; do
-        taken=$({ time "$@" <commands >replies; } 2>&1)
-        best=$(printf '%s\n' $best "$taken" | sort -n | head -n 1)
-    done
-    echo "$best"
-}
 
 serve=$(least "$program" serve)
 if [ "$(wc -c <replies)" -ne $((24 * count)) ]; then
