@@ -1,5 +1,6 @@
 -- One step of the machine.
 use Rattle.std.specs.Prelude.{◌≡◌, ◌≢◌, ◌⊎◌, ℕ, ◌+◌, ◌==◌, ◌&&◌, nat_lt, nat_le, length, Bool, false, List, [], Option, None, Some, if◌then◌else◌}
+use Rattle.service_table.specs.declared.class.Class.TheVariants as class
 use Rattle.service_table.specs.declared.service.Service.{Service}
 use Rattle.service_table.specs.declared.state.State.{State}
 use Rattle.service_table.specs.declared.state.State.TheVariants as state
@@ -8,7 +9,7 @@ use Rattle.service_table.specs.declared.status.Status.TheVariants as status
 use Rattle.module_frames.specs.Requests.{Asked, request_of}
 use Rattle.module_frames.specs.Requests as asking
 use Rattle.service_table.specs.Numbers.{service_numbered}
-use Rattle.service_table.specs.Services.{is_permitted}
+use Rattle.service_table.specs.Services.{is_permitted, class_of}
 use Rattle.module_frames.specs.CommandFrames.{CommandFrame}
 use Rattle.module_frames.specs.ReplyFrames.{ReplyFrame}
 use Rattle.module_frames.specs.PublicState.{status_block, version_block, no_block}
@@ -164,7 +165,8 @@ reply_to command after = record {
 abbrev pub StepsKeepTheRules : {V : Type 0} → Calls V → Type 0
 StepsKeepTheRules {V} calls = (s : MachineState V) (command : CommandFrame) → IsBytes command.body → IsWellFormed s → IsWellFormed (step calls s command).machine
 
--- data is given in a role alone, and only where the service was done
+-- data is given in a role alone, by a service of class data alone, and only where it was done
 abbrev pub DataNeedsARole : {V : Type 0} → Calls V → Type 0
 DataNeedsARole {V} calls = (s : MachineState V) (command : CommandFrame) → (step calls s command).payload ≢ []
     → ((step calls s command).status ≡ status.Ok) × ((s.state ≡ state.Officer) ⊎ (s.state ≡ state.User))
+    × ((found : Service) × (service_numbered command.service ≡ Some found) × (class_of found ≡ class.Payload))

@@ -10,8 +10,8 @@ pub fn steps_keep_the_rules<E: Engine>()
     ensures keeps { StepsKeepTheRules E.calls }
 {}
 
-/// A step gives data only where its service was done in a role: none in self-tests, in entry or in error, and none where a service
-/// is refused.
+/// A step gives data only where a service of class data was done in a role: none in self-tests, in entry or in error, none by a
+/// service that zeroises, and none where a service is refused.
 pub fn data_needs_a_role<E: Engine>()
     ensures { DataNeedsARole E.calls }
 {}
