@@ -1,4 +1,4 @@
 pub mod Algorithms
 pub mod Parameters
 pub mod ByteList
-pub mod Shown
+pub mod OutboxContents

@@ -1,7 +1,7 @@
 //! The bytes of a reply, in a buffer that is taken once.
 ghost use Rattle.std.specs.Prelude.{◌≡◌, ◌≤◌, ◌+◌, ◌-◌, ◌++◌, [], length, take, drop, IfOk};
 ghost use Rattle.bits_core.specs.ByteList.{zeros};
-ghost use Rattle.bits_core.specs.Shown.{holding};
+ghost use Rattle.bits_core.specs.OutboxContents.{holding};
 
 use crate::wipe;
 use std::alloc::{AllocError, Global};
@@ -17,10 +17,10 @@ pub struct Outbox {
 
 impl Model for Outbox {
     ghost use Rattle.std.specs.Prelude.{◌≡◌, ◌≤◌, ◌-◌, length, take, drop};
-    ghost use Rattle.bits_core.specs.Shown.{Shown};
+    ghost use Rattle.bits_core.specs.OutboxContents.{OutboxContents};
     ghost use Rattle.bits_core.specs.ByteList.{zeros};
 
-    ghost Value = { Shown };
+    ghost Value = { OutboxContents };
 
     ghost view = { λ a. record { bytes = take a.used a.buffer.items; room = length a.buffer.items; unused = drop a.used a.buffer.items } };
 

@@ -1,6 +1,6 @@
 //! The port through which a service reaches its reply. An inhibited one has no call that adds bytes.
 ghost use Rattle.std.specs.Prelude.{◌≡◌, ◌≤◌, ◌+◌, ◌++◌, [], length};
-ghost use Rattle.bits_core.specs.Shown.{holding};
+ghost use Rattle.bits_core.specs.OutboxContents.{holding};
 
 use crate::Outbox;
 use std::marker::PhantomData;

@@ -1,6 +1,6 @@
 // The leftmost bytes of an engine's output.
 ghost use Rattle.std.specs.Prelude.{◌≡◌, ◌≤◌, ◌+◌, ◌++◌, length, take};
-ghost use Rattle.bits_core.specs.Shown.{holding};
+ghost use Rattle.bits_core.specs.OutboxContents.{holding};
 ghost use Rattle.crypto_services.specs.Core.{is_leftmost};
 
 use bits_core::{Enabled, Port, same};

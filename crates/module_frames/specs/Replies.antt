@@ -1,6 +1,6 @@
 -- What a reply stands for.
 use Rattle.std.specs.Prelude.{◌≡◌, false, [], replicate}
-use Rattle.bits_core.specs.Shown.{holding}
+use Rattle.bits_core.specs.OutboxContents.{holding}
 use Rattle.module_frames.specs.declared.reply.Reply.{Reply}
 use Rattle.service_table.specs.declared.state.State.TheVariants as state
 use Rattle.service_table.specs.declared.status.Status.TheVariants as status

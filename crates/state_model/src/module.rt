@@ -5,7 +5,7 @@ ghost use Rattle.module_frames.specs.Requests.{asked_of, service_for, IsInRange}
 ghost use Rattle.module_frames.specs.PublicState.{status_block, no_block};
 ghost use Rattle.bits_core.specs.Algorithms.{alg_size};
 ghost use Rattle.bits_core.specs.Parameters.{length_fits};
-ghost use Rattle.bits_core.specs.Shown.{holding};
+ghost use Rattle.bits_core.specs.OutboxContents.{holding};
 ghost use Rattle.ssp_slots.specs.Slots.{slot_in};
 ghost use Rattle.crypto_services.specs.Core.{hash_served, mac_served, mac_verify_served};
 ghost use Rattle.state_model.specs.MachineState.{MachineState, initial_state, public_of};
