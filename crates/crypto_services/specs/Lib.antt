@@ -1,2 +1,4 @@
-pub mod Core
+pub mod AtSlots
+pub mod Services
+pub mod Indicator
 pub mod Serves

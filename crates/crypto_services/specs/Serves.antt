@@ -2,18 +2,21 @@
 use Rattle.std.specs.Prelude.{◌≡◌, ℕ, List}
 use Rattle.crypto_services.specs.declared.parts.Parts.{Parts}
 use Rattle.crypto_services.specs.declared.outcome.Outcome.{Outcome}
-use Rattle.crypto_services.specs.Core.{Core, Served}
+use Rattle.crypto_services.specs.AtSlots.{SlotsResult}
+use Rattle.crypto_services.specs.Indicator.{ServiceUse, indicator}
 
--- what the parts show
-abbrev pub core_of : {V : Type 0} → Parts V → Core V
-core_of parts = record { engine = parts.engine; vault = parts.vault }
+-- The parts are those of the result: engine and slots are, and all else is as it was.
+pub record Leaves {V : Type 0} (result : SlotsResult V) (old new : Parts V) : Type 0 where
+  pub engine : new.engine ≡ result.engine
+  pub vault : new.vault ≡ record old.vault { slots = result.slots }
+  pub health : new.health ≡ old.health
 
--- the outcome of a service; nothing failed
-abbrev pub outcome_of : {V : Type 0} → Served V → Outcome
-outcome_of served = record { status = served.status; code = 0; approved = served.approved }
+-- the outcome of a service that nothing failed in
+abbrev pub outcome_of : {V : Type 0} → ServiceUse → SlotsResult V → Outcome
+outcome_of use' result = record { status = result.answer.status; code = 0; approved = indicator use' result.answer.status result.slots }
 
--- the parts, the outcome and the payload are those of the definition
-pub record Serves {V : Type 0} (served : Served V) (parts : Parts V) (outcome : Outcome) (payload : List ℕ) : Type 0 where
-  pub core : core_of parts ≡ served.core
-  pub same_outcome : outcome ≡ outcome_of served
-  pub same_payload : payload ≡ served.payload
+-- the parts, the outcome and the payload are those of the result
+pub record Serves {V : Type 0} (use' : ServiceUse) (result : SlotsResult V) (old new : Parts V) (outcome : Outcome) (payload : List ℕ) : Type 0 where
+  pub leaves : Leaves result old new
+  pub same_outcome : outcome ≡ outcome_of use' result
+  pub same_payload : payload ≡ result.answer.payload

@@ -5,7 +5,7 @@ use Rattle.std.proofs.lemmas.List.{append_assoc, length-take-le, length-drop, ta
 use Rattle.std.proofs.Math.Seq.{take-add}
 use Rattle.module_frames.specs.declared.frames.Fed.TheVariants as fed
 use Rattle.module_frames.specs.Streams.{body_length}
-use Rattle.module_frames.specs.Fragments.{Fragment, Feeds, IsPartial, IsBrokenAt, Stands}
+use Rattle.module_frames.specs.Fragments.{Fragment, Feeds, IsIncomplete, IsBrokenAt, IsComplete}
 use Rattle.module_frames.proofs.Headers.{body_length-append}
 
 -- a piece was taken in two steps: so many bytes for the header, and so many of those behind for the body
@@ -23,26 +23,26 @@ taken_once {old} {mid} {new} {piece} {head} {body} taken =
     ∙ ap (λ xs. record old { bytes = xs })
     (append_assoc old.bytes (take head piece) (take body (drop head piece)) ∙ ap (λ xs. old.bytes ++ xs) (sym (take-add head body piece)))
 
-pub feeds_whole : {old mid new : Fragment} {piece : List ℕ} {head body : ℕ} → old.fault ≡ None → TakenTwice old mid new piece head body → Stands new
+pub feeds_whole : {old mid new : Fragment} {piece : List ℕ} {head body : ℕ} → old.fault ≡ None → TakenTwice old mid new piece head body → IsComplete new
     → Feeds old piece (fed.Whole (head + body)) new
-feeds_whole {old} {mid} {new} {piece} {head} {body} sound taken stands = record {
+feeds_whole {old} {mid} {new} {piece} {head} {body} no_fault taken stands = record {
   before_fault = λ _. (omega (arith, taken.within, taken.fits, length-drop head piece), taken_once taken, stands);
-  after_fault = λ place broken. cc;
+  after_fault = λ offset broken. cc;
 }
 
 pub feeds_more : {old mid new : Fragment} {piece : List ℕ} {head body : ℕ} → old.fault ≡ None → TakenTwice old mid new piece head body
-    → head + body ≡ length piece → IsPartial new.bytes → Feeds old piece fed.More new
-feeds_more {old} {mid} {new} {piece} {head} {body} sound taken all partial = record {
-  before_fault = λ _. (taken_once taken ∙ ap (λ xs. record old { bytes = old.bytes ++ xs }) (take_all (head + body) piece (omega (arith, all))), partial);
-  after_fault = λ place broken. cc;
+    → head + body ≡ length piece → IsIncomplete new.bytes → Feeds old piece fed.More new
+feeds_more {old} {mid} {new} {piece} {head} {body} no_fault taken all incomplete = record {
+  before_fault = λ _. (taken_once taken ∙ ap (λ xs. record old { bytes = old.bytes ++ xs }) (take_all (head + body) piece (omega (arith, all))), incomplete);
+  after_fault = λ offset broken. cc;
 }
 
-pub feeds_fault : {old new : Fragment} {piece : List ℕ} {place : ℕ} → old.fault ≡ None → new ≡ record old { bytes = []; fault = Some place }
-    → IsBrokenAt old.offset (old.bytes ++ piece) place → Feeds old piece (fed.BadFrame place) new
-feeds_fault sound gone fault = record { before_fault = λ _. (gone, fault); after_fault = λ other broken. cc }
+pub feeds_fault : {old new : Fragment} {piece : List ℕ} {offset : ℕ} → old.fault ≡ None → new ≡ record old { bytes = []; fault = Some offset }
+    → IsBrokenAt old.start (old.bytes ++ piece) offset → Feeds old piece (fed.BadFrame offset) new
+feeds_fault no_fault gone fault = record { before_fault = λ _. (gone, fault); after_fault = λ other broken. cc }
 
-pub feeds_broken : {old : Fragment} {piece : List ℕ} {place : ℕ} → old.fault ≡ Some place → Feeds old piece (fed.BadFrame place) old
-feeds_broken broken = record { before_fault = λ sound. cc; after_fault = λ other same. (cc, refl) }
+pub feeds_broken : {old : Fragment} {piece : List ℕ} {offset : ℕ} → old.fault ≡ Some offset → Feeds old piece (fed.BadFrame offset) old
+feeds_broken broken = record { before_fault = λ no_fault. cc; after_fault = λ other same. (cc, refl) }
 
 -- where the body isn't whole, all of the piece was taken
 pub all_taken : {old mid new : Fragment} {piece : List ℕ} {head body : ℕ} → TakenTwice old mid new piece head body → 8 ≤ length mid.bytes
@@ -52,6 +52,6 @@ all_taken {old} {mid} {new} {piece} {head} {body} taken headed many short =
     let bytes : new.bytes ≡ mid.bytes ++ take body (drop head piece) = ap (λ (f : Fragment). f.bytes) taken.second in
     let long : length new.bytes ≡ length mid.bytes + body =
     ap length bytes ∙ length-append mid.bytes (take body (drop head piece)) ∙ ap (λ n. length mid.bytes + n) (length-take-le body (drop head piece) taken.fits) in
-    let told : body_length new.bytes ≡ body_length mid.bytes = ap body_length bytes ∙ body_length-append mid.bytes (take body (drop head piece)) headed in
+    let known : body_length new.bytes ≡ body_length mid.bytes = ap body_length bytes ∙ body_length-append mid.bytes (take body (drop head piece)) headed in
     let less = short (omega (arith, long, headed)) in
-    omega (arith, long, told, less, many, length-drop head piece, taken.within)
+    omega (arith, long, known, less, many, length-drop head piece, taken.within)

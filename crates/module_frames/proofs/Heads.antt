@@ -1,4 +1,4 @@
--- What the head of a reply is spelled by, and that it is read in one way.
+-- What the head of a reply is encoded by, and that it is read in one way.
 use Rattle.std.proofs.Common.{◌≡◌, ◌≤◌, ◌<◌, ◌+◌, ◌^◌, ◌++◌, ℕ, Bool, true, false, List, [], ◌∷◌, Some, None, if◌then◌else◌, rules, length, take, drop, get_or, refl, sym, ◌∙◌, ap, arith, length-append}
 use Rattle.std.specs.Prelude.{find, ◌==◌}
 use Rattle.std.specs.Int.{to_be_bytes, from_be_bytes, w16, w32}
@@ -10,7 +10,7 @@ use Rattle.service_table.specs.declared.status.Status.{Status}
 use Rattle.service_table.specs.Numbers.{state_number, state_numbered, all_states, status_number, status_numbered, all_statuses}
 use Rattle.module_frames.specs.declared.head.ReplyHead.{ReplyHead}
 use Rattle.module_frames.specs.ReplyFrames.{head_of, reply_header}
-use Rattle.module_frames.specs.ReplyHeads.{head_spelling, SpellsNoHead, indicator, indicated}
+use Rattle.module_frames.specs.ReplyHeads.{head_encoding, EncodesNoHead, indicator, indicated}
 use Rattle.module_frames.specs.Laws.{HeadsReadInOneWay, HeadsReadBack, HeadersReadBack}
 
 -- what is found passes the test
@@ -65,7 +65,7 @@ six_cells (a ∷ b ∷ []) h = absurd (omega arith)
 six_cells (a ∷ b ∷ c ∷ []) h = absurd (omega arith)
 six_cells (a ∷ b ∷ c ∷ d ∷ []) h = absurd (omega arith)
 six_cells (a ∷ b ∷ c ∷ d ∷ e ∷ []) h = absurd (omega arith)
-six_cells (a ∷ b ∷ c ∷ d ∷ e ∷ f ∷ rest) h = refl
+six_cells (a ∷ b ∷ c ∷ d ∷ e ∷ f ∷ remainder) h = refl
 
 three_parts : (bytes : List ℕ) → drop 6 bytes ≡ take 2 (drop 6 bytes) ++ (take 12 (drop 8 bytes) ++ drop 20 bytes)
 three_parts bytes =
@@ -87,19 +87,19 @@ pub record Fields (head : ReplyHead) (bytes : List ℕ) : Type 0 where
   pub block : head.block ≡ take 12 (drop 8 bytes)
   pub payload : to_be_bytes w32 head.length ≡ drop 20 bytes
 
--- bytes with these fields spell the head
-pub spelled_by : (head : ReplyHead) (bytes : List ℕ) → length bytes ≡ 24 → Fields head bytes → bytes ≡ head_spelling head
-spelled_by head bytes h fields =
+-- bytes with these fields encode the head
+pub encoded_by : (head : ReplyHead) (bytes : List ℕ) → length bytes ≡ 24 → Fields head bytes → bytes ≡ head_encoding head
+encoded_by head bytes h fields =
     six_cells bytes (omega arith)
     ∙ rw (three_parts bytes, fields.start, fields.version, fields.service, fields.status, fields.state, fields.approved, ← fields.code, ← fields.block, ← fields.payload) refl
 
-length-spelling : (head : ReplyHead) → length (head_spelling head) ≡ 12 + length head.block
-length-spelling head = omega (arith, length-append head.block (to_be_bytes w32 head.length))
+length-encoding : (head : ReplyHead) → length (head_encoding head) ≡ 12 + length head.block
+length-encoding head = omega (arith, length-append head.block (to_be_bytes w32 head.length))
 
--- bytes that spell the head have these fields
-pub fields_of : (head : ReplyHead) (bytes : List ℕ) → length bytes ≡ 24 → bytes ≡ head_spelling head → Fields head bytes
+-- bytes that encode the head have these fields
+pub fields_of : (head : ReplyHead) (bytes : List ℕ) → length bytes ≡ 24 → bytes ≡ head_encoding head → Fields head bytes
 fields_of head bytes h e =
-    let block : length head.block ≡ 12 = omega (arith, h, ap length e, length-spelling head) in
+    let block : length head.block ≡ 12 = omega (arith, h, ap length e, length-encoding head) in
     record {
       start = ap (λ xs. get_or xs 0 0) e;
       version = ap (λ xs. get_or xs 1 0) e;
@@ -119,17 +119,17 @@ same_payload m n hm hn e = sym (from_be_bytes-to_be_bytes_4 m hm) ∙ ap (λ xs.
 same_code : (m n : ℕ) → m < 2 ^ 16 → n < 2 ^ 16 → to_be_bytes w16 m ≡ to_be_bytes w16 n → m ≡ n
 same_code m n hm hn e = sym (from_be_bytes-to_be_bytes_2 m hm) ∙ ap (λ xs. from_be_bytes w16 xs) e ∙ from_be_bytes-to_be_bytes_2 n hn
 
--- bytes that tell too long a payload spell no head
-pub too_long : (bytes : List ℕ) (long : ℕ) → length bytes ≡ 24 → long < 2 ^ 32 → to_be_bytes w32 long ≡ drop 20 bytes → 65664 < long → SpellsNoHead bytes
-too_long bytes long h fits e more head few spelled =
-    let fields = fields_of head bytes h spelled in
+-- bytes that tell too long a payload encode no head
+pub too_long : (bytes : List ℕ) (long : ℕ) → length bytes ≡ 24 → long < 2 ^ 32 → to_be_bytes w32 long ≡ drop 20 bytes → 65664 < long → EncodesNoHead bytes
+too_long bytes long h fits e more head few encoded =
+    let fields = fields_of head bytes h encoded in
     let same = same_payload long head.length fits (omega (arith, few)) (e ∙ sym fields.payload) in
     omega (arith, same, few, more)
 
 pub one_way : HeadsReadInOneWay
 one_way a b wa wb e =
-    let bytes = head_spelling a in
-    let long : length bytes ≡ 24 = length-spelling a ∙ ap (λ n. 12 + n) wa.block in
+    let bytes = head_encoding a in
+    let long : length bytes ≡ 24 = length-encoding a ∙ ap (λ n. 12 + n) wa.block in
     let fa = fields_of a bytes long refl in
     let fb = fields_of b bytes long e in
     same_head a.service b.service a.status b.status a.state b.state a.approved b.approved a.code b.code a.block b.block a.length b.length
@@ -138,9 +138,9 @@ one_way a b wa wb e =
     (fa.block ∙ sym fb.block) (same_payload a.length b.length wa.payload wb.payload (fa.payload ∙ sym fb.payload))
 
 pub reads_back : HeadsReadBack
-reads_back head bytes None is read = absurd (read head is.payload is.spelled)
-reads_back head bytes (Some other) is read = ap (λ h. Some h) (one_way other head read.widths is.widths (sym read.spelled ∙ is.spelled))
+reads_back head bytes None is read = absurd (read head is.payload is.encoded)
+reads_back head bytes (Some other) is read = ap (λ h. Some h) (one_way other head read.widths is.widths (sym read.encoded ∙ is.encoded))
 
 pub headers_read_back : HeadersReadBack
 headers_read_back reply answer widths few read =
-    reads_back (head_of reply) (reply_header reply) answer (record { widths = widths; payload = few; spelled = refl }) read
+    reads_back (head_of reply) (reply_header reply) answer (record { widths = widths; payload = few; encoded = refl }) read

@@ -4,8 +4,8 @@ use Rattle.std.proofs.lemmas.List.{take_at, drop_at, drop-drop, drop_all, append
 use borrow.Rule.Slice.PartMut.{put_mid}
 
 -- a part written behind a front
-pub put_behind : (n k : ℕ) (front rest part : List ℕ) → length front ≡ n → put_mid n k (front ++ rest) part ≡ (front ++ part) ++ drop k rest
-put_behind n k front rest part h = rw (take_at front rest n h, drop_at front rest n h) (sym (append_assoc front part (drop k rest)))
+pub put_behind : (n k : ℕ) (front remainder part : List ℕ) → length front ≡ n → put_mid n k (front ++ remainder) part ≡ (front ++ part) ++ drop k remainder
+put_behind n k front remainder part h = rw (take_at front remainder n h, drop_at front remainder n h) (sym (append_assoc front part (drop k remainder)))
 
 -- the four parts of a header
 pub four_parts : (into a b c d : List ℕ) → length into ≡ 24 → length a ≡ 6 → length b ≡ 2 → length c ≡ 12

@@ -1,8 +1,8 @@
 pub mod Zeros
 pub mod Joined
 pub mod Headers
-pub mod Spellings
-pub mod Splitting
+pub mod CommandEncodings
+pub mod Parsing
 pub mod Holding
 pub mod Feeding
 pub mod Heads

@@ -10,3 +10,4 @@ pub mod ReplyFrames
 pub mod Replies
 pub mod ReplyHeads
 pub mod PublicState
+pub mod PublicEffects

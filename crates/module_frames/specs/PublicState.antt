@@ -1,25 +1,25 @@
--- The part of the module's state that everyone may see.
+-- The part of the module's state that everyone may see, and the status blocks that tell it. The states and blocks are this
+-- project's own.
 use Rattle.std.specs.Prelude.{ℕ, List, ◌∷◌, ◌++◌, replicate, codes}
-use Rattle.std.specs.Int.{to_be_bytes, w32}
-use Rattle.service_table.specs.declared.state.State.{State}
+use Rattle.std.specs.Int.{to_be_bytes, w16, w32}
+use Rattle.service_table.specs.declared.state.State.TheVariants as state
 use Rattle.service_table.specs.Numbers.{state_number}
+use Rattle.module_frames.specs.declared.public_state.PublicState.{PublicState}
 
--- the state, the state to return to from self-tests and how many of them were done, the period and the uses since the last tests
-pub record PublicState : Type 0 where
-  pub state : State
-  pub back : State
-  pub step : ℕ
-  pub period : ℕ
-  pub count : ℕ
+-- without power: all else is zero
+abbrev pub unpowered : PublicState
+unpowered = record { state = state.Off; return_state = state.Off; tests_done = 0; period = 0; uses_since_tests = 0; error_code = 0 }
 
 -- a status block that tells nothing
 abbrev pub no_block : List ℕ
 no_block = replicate 12 0
 
--- The status block that tells the public state: the state to return to and the step of self-tests in a byte each, the tests
--- that passed in two bytes, the period and the uses since the last tests in four. No test is made yet.
-abbrev pub status_block : PublicState → List ℕ
-status_block public = state_number public.back ∷ public.step ∷ 0 ∷ 0 ∷ (to_be_bytes w32 public.period ++ to_be_bytes w32 public.count)
+-- The status block that tells the public state: the state to return to and the number of self-tests done in a byte each, the tests
+-- that passed in two bytes, the period and the uses since the last tests in four.
+abbrev pub status_block : PublicState → ℕ → List ℕ
+status_block public tests_passed =
+    state_number public.return_state ∷ public.tests_done
+    ∷ (to_be_bytes w16 tests_passed ++ (to_be_bytes w32 public.period ++ to_be_bytes w32 public.uses_since_tests))
 
 -- the status block that tells name and version
 abbrev pub version_block : List ℕ

@@ -3,7 +3,7 @@ use Rattle.std.specs.Prelude.{ℕ, Bool, List, ◌++◌, length}
 use Rattle.service_table.specs.declared.state.State.{State}
 use Rattle.service_table.specs.declared.status.Status.{Status}
 use Rattle.module_frames.specs.declared.head.ReplyHead.{ReplyHead}
-use Rattle.module_frames.specs.ReplyHeads.{head_spelling}
+use Rattle.module_frames.specs.ReplyHeads.{head_encoding}
 
 -- a reply: the command's service, its status, the state after it, whether it was an approved service, the error code,
 -- the status block of 12 bytes, and the payload
@@ -28,9 +28,9 @@ head_of reply = record {
   length = length reply.payload;
 }
 
--- its head, spelled in 24 bytes
+-- its head, encoded in 24 bytes
 abbrev pub reply_header : ReplyFrame → List ℕ
-reply_header reply = head_spelling (head_of reply)
+reply_header reply = head_encoding (head_of reply)
 
-abbrev pub reply_spelling : ReplyFrame → List ℕ
-reply_spelling reply = reply_header reply ++ reply.payload
+abbrev pub reply_encoding : ReplyFrame → List ℕ
+reply_encoding reply = reply_header reply ++ reply.payload

@@ -10,8 +10,8 @@ abbrev pub indicator : Bool → ℕ
 indicator approved = if approved then 1 else 0
 
 -- byte 5C, version 01, service, status, state, indicator, error code in two bytes, block, the payload's length in four bytes
-abbrev pub head_spelling : ReplyHead → List ℕ
-head_spelling head =
+abbrev pub head_encoding : ReplyHead → List ℕ
+head_encoding head =
     0x5c ∷ 0x01 ∷ head.service ∷ status_number head.status ∷ state_number head.state ∷ indicator head.approved
     ∷ (to_be_bytes w16 head.code ++ (head.block ++ to_be_bytes w32 head.length))
 
@@ -22,19 +22,19 @@ pub record HasWidths (head : ReplyHead) : Type 0 where
   pub block : length head.block ≡ 12
   pub payload : head.length < 2 ^ 32
 
--- the bytes spell the head, and its payload is of a length that a reply may have
+-- the bytes encode the head, and its payload is of a length that a reply may have
 pub record IsReplyHead (head : ReplyHead) (bytes : List ℕ) : Type 0 where
   pub widths : HasWidths head
   pub payload : head.length ≤ 65664
-  pub spelled : bytes ≡ head_spelling head
+  pub encoded : bytes ≡ head_encoding head
 
--- the bytes spell no head whose payload is of a length that a reply may have, not even one with fields that are too wide
-abbrev pub SpellsNoHead : List ℕ → Type 0
-SpellsNoHead bytes = (head : ReplyHead) → head.length ≤ 65664 → bytes ≡ head_spelling head → ⊥
+-- the bytes encode no head whose payload is of a length that a reply may have, not even one with fields that are too wide
+abbrev pub EncodesNoHead : List ℕ → Type 0
+EncodesNoHead bytes = (head : ReplyHead) → head.length ≤ 65664 → bytes ≡ head_encoding head → ⊥
 
--- the answer is the head that the bytes spell, or None where they spell none
+-- the answer is the head that the bytes encode, or None where they encode none
 abbrev pub ReadsHead : List ℕ → Option ReplyHead → Type 0
-ReadsHead bytes answer = MatchOption answer (SpellsNoHead bytes) (λ head. IsReplyHead head bytes)
+ReadsHead bytes answer = MatchOption answer (EncodesNoHead bytes) (λ head. IsReplyHead head bytes)
 
 -- whether the service was an approved one, by the indicator, where it is one
 abbrev pub indicated : ℕ → Option Bool

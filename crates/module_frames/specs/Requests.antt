@@ -14,60 +14,60 @@ use Rattle.module_frames.specs.declared.request.Request.{Request}
 use Rattle.module_frames.specs.declared.request.Request.TheVariants as request
 
 -- what a command asks for
-pub data Asked : Type 0 where
-  PowerOn : (period : ℕ) → Asked
-  TestStep : Asked
-  RequestTests : Asked
-  ShowStatus : Asked
-  ShowVersion : Asked
-  SelectRole : (role : ℕ) → Asked
-  Reset : Asked
-  EntryBegin : (slot : ℕ) (header : Header) (long : ℕ) → Asked
-  EntryBytes : (piece : List ℕ) → Asked
-  EntryCommit : (check : List ℕ) → Asked
-  EntryAbort : Asked
-  Zeroise : (slot : ℕ) → Asked
-  ZeroiseAll : Asked
-  ShowSlot : (slot : ℕ) → Asked
-  Hash : (alg : Alg) (text : List ℕ) → Asked
-  Mac : (slot : ℕ) (alg : Alg) (mac_length : ℕ) (text : List ℕ) → Asked
-  MacVerify : (slot : ℕ) (alg : Alg) (tag text : List ℕ) → Asked
+pub data RequestValue : Type 0 where
+  PowerOn : (period : ℕ) → RequestValue
+  TestStep : RequestValue
+  RequestTests : RequestValue
+  ShowStatus : RequestValue
+  ShowVersion : RequestValue
+  SelectRole : (role : ℕ) → RequestValue
+  Reset : RequestValue
+  EntryBegin : (slot : ℕ) (header : Header) (long : ℕ) → RequestValue
+  EntryBytes : (piece : List ℕ) → RequestValue
+  EntryCommit : (check : List ℕ) → RequestValue
+  EntryAbort : RequestValue
+  Zeroise : (slot : ℕ) → RequestValue
+  ZeroiseAll : RequestValue
+  ShowSlot : (slot : ℕ) → RequestValue
+  Hash : (alg : Alg) (text : List ℕ) → RequestValue
+  Mac : (slot : ℕ) (alg : Alg) (mac_length : ℕ) (text : List ℕ) → RequestValue
+  MacVerify : (slot : ℕ) (alg : Alg) (tag text : List ℕ) → RequestValue
 
-abbrev pub asked_of : Request → Asked
-asked_of (request.PowerOn period) = PowerOn period
-asked_of request.TestStep = TestStep
-asked_of request.RequestTests = RequestTests
-asked_of request.ShowStatus = ShowStatus
-asked_of request.ShowVersion = ShowVersion
-asked_of (request.SelectRole role) = SelectRole role
-asked_of request.Reset = Reset
-asked_of (request.EntryBegin slot header long) = EntryBegin slot header long
-asked_of (request.EntryBytes piece) = EntryBytes piece.now
-asked_of (request.EntryCommit check) = EntryCommit check.now
-asked_of request.EntryAbort = EntryAbort
-asked_of (request.Zeroise slot) = Zeroise slot
-asked_of request.ZeroiseAll = ZeroiseAll
-asked_of (request.ShowSlot slot) = ShowSlot slot
-asked_of (request.Hash alg text) = Hash alg text.now
-asked_of (request.Mac slot alg mac_length text) = Mac slot alg mac_length text.now
-asked_of (request.MacVerify slot alg tag text) = MacVerify slot alg tag.now text.now
+abbrev pub request_value : Request → RequestValue
+request_value (request.PowerOn period) = PowerOn period
+request_value request.TestStep = TestStep
+request_value request.RequestTests = RequestTests
+request_value request.ShowStatus = ShowStatus
+request_value request.ShowVersion = ShowVersion
+request_value (request.SelectRole role) = SelectRole role
+request_value request.Reset = Reset
+request_value (request.EntryBegin slot header long) = EntryBegin slot header long
+request_value (request.EntryBytes piece) = EntryBytes piece.now
+request_value (request.EntryCommit check) = EntryCommit check.now
+request_value request.EntryAbort = EntryAbort
+request_value (request.Zeroise slot) = Zeroise slot
+request_value request.ZeroiseAll = ZeroiseAll
+request_value (request.ShowSlot slot) = ShowSlot slot
+request_value (request.Hash alg text) = Hash alg text.now
+request_value (request.Mac slot alg mac_length text) = Mac slot alg mac_length text.now
+request_value (request.MacVerify slot alg tag text) = MacVerify slot alg tag.now text.now
 
 -- a period of four bytes, at most 1,000,000
-abbrev pub power_on_of : List ℕ → Option Asked
+abbrev pub power_on_of : List ℕ → Option RequestValue
 power_on_of body =
     if length body == 4 && nat_le (from_be_bytes w32 body) 1000000
     then Some (PowerOn (from_be_bytes w32 body))
     else None
 
 -- a role of one byte, at most 2
-abbrev pub select_role_of : List ℕ → Option Asked
+abbrev pub select_role_of : List ℕ → Option RequestValue
 select_role_of body =
     if length body == 1 && nat_le (slice_index body 0) 2
     then Some (SelectRole (slice_index body 0))
     else None
 
 -- an entry of known kind and domain: a slot below 16, a flag, at least one use, and a length that fits
-abbrev pub entry_of : ℕ → Option Kind → Option Domain → ℕ → ℕ → ℕ → Option Asked
+abbrev pub entry_of : ℕ → Option Kind → Option Domain → ℕ → ℕ → ℕ → Option RequestValue
 entry_of slot (Some kind) (Some domain) export uses long =
     if nat_lt slot 16 && (nat_le export 1 && (nat_le 1 uses && length_fits kind domain long))
     then Some (EntryBegin slot (record { kind = kind; domain = domain; export = export == 1; uses = uses }) long)
@@ -75,11 +75,11 @@ entry_of slot (Some kind) (Some domain) export uses long =
 entry_of slot None domain export uses long = None
 entry_of slot (Some kind) None export uses long = None
 
-abbrev pub begin_of : ℕ → ℕ → ℕ → ℕ → ℕ → ℕ → Option Asked
+abbrev pub begin_of : ℕ → ℕ → ℕ → ℕ → ℕ → ℕ → Option RequestValue
 begin_of slot kind domain export uses long = entry_of slot (kind_of kind) (domain_of domain) export uses long
 
 -- slot, kind, domain and export flag in a byte each, uses in four bytes, length in a byte
-abbrev pub entry_begin_of : List ℕ → Option Asked
+abbrev pub entry_begin_of : List ℕ → Option RequestValue
 entry_begin_of body =
     if length body == 9
     then begin_of (slice_index body 0) (slice_index body 1) (slice_index body 2) (slice_index body 3)
@@ -87,11 +87,11 @@ entry_begin_of body =
     else None
 
 -- 1 to 64 bytes of a parameter
-abbrev pub piece_of : List ℕ → Option Asked
+abbrev pub piece_of : List ℕ → Option RequestValue
 piece_of body = if nat_le 1 (length body) && nat_le (length body) 64 then Some (EntryBytes body) else None
 
 -- a check value of eight bytes
-abbrev pub commit_of : List ℕ → Option Asked
+abbrev pub commit_of : List ℕ → Option RequestValue
 commit_of body = if length body == 8 then Some (EntryCommit body) else None
 
 -- the number of a slot, of one byte, at most 15
@@ -99,7 +99,7 @@ abbrev pub slot_of : List ℕ → Option ℕ
 slot_of body = if length body == 1 && nat_lt (slice_index body 0) 16 then Some (slice_index body 0) else None
 
 -- a hash's number in a byte, then the text
-abbrev pub hash_of : List ℕ → Option Asked
+abbrev pub hash_of : List ℕ → Option RequestValue
 hash_of body =
     if nat_le 1 (length body)
     then option_map (λ alg. Hash alg (drop 1 body)) (alg_of (slice_index body 0))
@@ -110,7 +110,7 @@ abbrev pub is_mac_length : Alg → ℕ → Bool
 is_mac_length alg mac_length = nat_le 1 mac_length && nat_le mac_length (alg_size alg)
 
 -- a MAC of that length with a known hash, under a slot below 16
-abbrev pub mac_with : ℕ → Option Alg → ℕ → List ℕ → Option Asked
+abbrev pub mac_with : ℕ → Option Alg → ℕ → List ℕ → Option RequestValue
 mac_with slot (Some alg) mac_length text =
     if nat_lt slot 16 && is_mac_length alg mac_length
     then Some (Mac slot alg mac_length text)
@@ -118,32 +118,32 @@ mac_with slot (Some alg) mac_length text =
 mac_with slot None mac_length text = None
 
 -- slot, hash and the MAC's length in a byte each, then the text
-abbrev pub mac_of : List ℕ → Option Asked
+abbrev pub mac_of : List ℕ → Option RequestValue
 mac_of body =
     if nat_le 3 (length body)
     then mac_with (slice_index body 0) (alg_of (slice_index body 1)) (slice_index body 2) (drop 3 body)
     else None
 
 -- a MAC of that length to check in front of the text, with a known hash, under a slot below 16
-abbrev pub verify_with : ℕ → Option Alg → ℕ → List ℕ → Option Asked
-verify_with slot (Some alg) mac_length rest =
-    if nat_lt slot 16 && (is_mac_length alg mac_length && nat_le mac_length (length rest))
-    then Some (MacVerify slot alg (take mac_length rest) (drop mac_length rest))
+abbrev pub verify_with : ℕ → Option Alg → ℕ → List ℕ → Option RequestValue
+verify_with slot (Some alg) mac_length remainder =
+    if nat_lt slot 16 && (is_mac_length alg mac_length && nat_le mac_length (length remainder))
+    then Some (MacVerify slot alg (take mac_length remainder) (drop mac_length remainder))
     else None
-verify_with slot None mac_length rest = None
+verify_with slot None mac_length remainder = None
 
 -- slot, hash and the MAC's length in a byte each, then the MAC and the text
-abbrev pub mac_verify_of : List ℕ → Option Asked
+abbrev pub mac_verify_of : List ℕ → Option RequestValue
 mac_verify_of body =
     if nat_le 3 (length body)
     then verify_with (slice_index body 0) (alg_of (slice_index body 1)) (slice_index body 2) (drop 3 body)
     else None
 
 -- a body without bytes
-abbrev pub empty_of : List ℕ → Asked → Option Asked
-empty_of body asked = if length body == 0 then Some asked else None
+abbrev pub empty_of : List ℕ → RequestValue → Option RequestValue
+empty_of body value = if length body == 0 then Some value else None
 
-abbrev pub request_of : Service → List ℕ → Option Asked
+abbrev pub request_of : Service → List ℕ → Option RequestValue
 request_of service.PowerOn body = power_on_of body
 request_of service.TestStep body = empty_of body TestStep
 request_of service.RequestTests body = empty_of body RequestTests
@@ -163,7 +163,7 @@ request_of service.Mac body = mac_of body
 request_of service.MacVerify body = mac_verify_of body
 
 -- the numbers of a request are within their bounds
-abbrev pub IsInRange : Asked → Type 0
+abbrev pub IsInRange : RequestValue → Type 0
 IsInRange (PowerOn period) = period ≤ 1000000
 IsInRange (SelectRole role) = role ≤ 2
 IsInRange (EntryBegin slot header long) = (slot < 16) × (1 ≤ header.uses) × IsTrue (length_fits header.kind header.domain long)
@@ -176,7 +176,7 @@ IsInRange (MacVerify slot alg tag text) = (slot < 16) × (1 ≤ length tag) × (
 IsInRange other = Unit {0}
 
 -- the service that a request is for
-abbrev pub service_for : Asked → Service
+abbrev pub service_for : RequestValue → Service
 service_for (PowerOn period) = service.PowerOn
 service_for TestStep = service.TestStep
 service_for RequestTests = service.RequestTests

@@ -2,7 +2,7 @@
 ghost use Rattle.std.specs.Prelude.{◌≡◌, ◌<◌, IfSome};
 ghost use Rattle.std.specs.Option.{option_map};
 ghost use Rattle.bits_core.specs.Algorithms.{alg_of};
-ghost use Rattle.module_frames.specs.Requests.{asked_of, power_on_of, select_role_of, entry_begin_of, begin_of, piece_of, commit_of, slot_of, hash_of, is_mac_length, mac_with, mac_of, verify_with, mac_verify_of, service_for, IsInRange};
+ghost use Rattle.module_frames.specs.Requests.{request_value, power_on_of, select_role_of, entry_begin_of, begin_of, piece_of, commit_of, slot_of, hash_of, is_mac_length, mac_with, mac_of, verify_with, mac_verify_of, service_for, IsInRange};
 
 use crate::Request;
 use bits_core::{Alg, Domain, Header, Kind, SlotId, fits};
@@ -15,9 +15,9 @@ pub const PERIOD_MAX: u32 = 1_000_000;
 pub const PIECE_MAX: usize = 64;
 
 pub fn read_power_on(body: &[u8]) -> Option<Request<'_>>
-    ensures read { option_map asked_of result ≡ power_on_of body.now }
-    ensures in_range { IfSome result (λ request. IsInRange (asked_of request)) }
-    ensures asked { IfSome result (λ request. service_for (asked_of request) ≡ Service.PowerOn) }
+    ensures read { option_map request_value result ≡ power_on_of body.now }
+    ensures in_range { IfSome result (λ request. IsInRange (request_value request)) }
+    ensures of_service { IfSome result (λ request. service_for (request_value request) ≡ Service.PowerOn) }
 {
     match body {
         [a, b, c, d] => {
@@ -29,9 +29,9 @@ pub fn read_power_on(body: &[u8]) -> Option<Request<'_>>
 }
 
 pub fn read_select_role(body: &[u8]) -> Option<Request<'_>>
-    ensures read { option_map asked_of result ≡ select_role_of body.now }
-    ensures in_range { IfSome result (λ request. IsInRange (asked_of request)) }
-    ensures asked { IfSome result (λ request. service_for (asked_of request) ≡ Service.SelectRole) }
+    ensures read { option_map request_value result ≡ select_role_of body.now }
+    ensures in_range { IfSome result (λ request. IsInRange (request_value request)) }
+    ensures of_service { IfSome result (λ request. service_for (request_value request) ≡ Service.SelectRole) }
 {
     match body {
         [role] => (*role <= 2).then_some(Request::SelectRole { role: *role }),
@@ -40,9 +40,9 @@ pub fn read_select_role(body: &[u8]) -> Option<Request<'_>>
 }
 
 pub fn read_entry_begin(body: &[u8]) -> Option<Request<'_>>
-    ensures read { option_map asked_of result ≡ entry_begin_of body.now }
-    ensures in_range { IfSome result (λ request. IsInRange (asked_of request)) }
-    ensures asked { IfSome result (λ request. service_for (asked_of request) ≡ Service.EntryBegin) }
+    ensures read { option_map request_value result ≡ entry_begin_of body.now }
+    ensures in_range { IfSome result (λ request. IsInRange (request_value request)) }
+    ensures of_service { IfSome result (λ request. service_for (request_value request) ≡ Service.EntryBegin) }
 {
     match body {
         [slot, kind, domain, export, a, b, c, d, length] => {
@@ -61,9 +61,9 @@ fn begin<'a>(
     uses: u32,
     length: u8,
 ) -> Option<Request<'a>>
-    ensures read { option_map asked_of result ≡ begin_of slot kind domain export uses length }
-    ensures in_range { IfSome result (λ request. IsInRange (asked_of request)) }
-    ensures asked { IfSome result (λ request. service_for (asked_of request) ≡ Service.EntryBegin) }
+    ensures read { option_map request_value result ≡ begin_of slot kind domain export uses length }
+    ensures in_range { IfSome result (λ request. IsInRange (request_value request)) }
+    ensures of_service { IfSome result (λ request. service_for (request_value request) ≡ Service.EntryBegin) }
 {
     let slot = SlotId::new(slot)?;
     let kind = Kind::from_number(kind)?;
@@ -86,9 +86,9 @@ fn begin<'a>(
 }
 
 pub fn read_piece(body: &[u8]) -> Option<Request<'_>>
-    ensures read { option_map asked_of result ≡ piece_of body.now }
-    ensures in_range { IfSome result (λ request. IsInRange (asked_of request)) }
-    ensures asked { IfSome result (λ request. service_for (asked_of request) ≡ Service.EntryBytes) }
+    ensures read { option_map request_value result ≡ piece_of body.now }
+    ensures in_range { IfSome result (λ request. IsInRange (request_value request)) }
+    ensures of_service { IfSome result (λ request. service_for (request_value request) ≡ Service.EntryBytes) }
 {
     if body.is_empty() || body.len() > PIECE_MAX {
         return None;
@@ -97,9 +97,9 @@ pub fn read_piece(body: &[u8]) -> Option<Request<'_>>
 }
 
 pub fn read_commit(body: &[u8]) -> Option<Request<'_>>
-    ensures read { option_map asked_of result ≡ commit_of body.now }
-    ensures in_range { IfSome result (λ request. IsInRange (asked_of request)) }
-    ensures asked { IfSome result (λ request. service_for (asked_of request) ≡ Service.EntryCommit) }
+    ensures read { option_map request_value result ≡ commit_of body.now }
+    ensures in_range { IfSome result (λ request. IsInRange (request_value request)) }
+    ensures of_service { IfSome result (λ request. service_for (request_value request) ≡ Service.EntryCommit) }
 {
     (body.len() == 8).then_some(Request::EntryCommit { check: body })
 }
@@ -115,9 +115,9 @@ pub fn read_slot(body: &[u8]) -> Option<SlotId>
 }
 
 pub fn read_hash(body: &[u8]) -> Option<Request<'_>>
-    ensures read { option_map asked_of result ≡ hash_of body.now }
-    ensures in_range { IfSome result (λ request. IsInRange (asked_of request)) }
-    ensures asked { IfSome result (λ request. service_for (asked_of request) ≡ Service.Hash) }
+    ensures read { option_map request_value result ≡ hash_of body.now }
+    ensures in_range { IfSome result (λ request. IsInRange (request_value request)) }
+    ensures of_service { IfSome result (λ request. service_for (request_value request) ≡ Service.Hash) }
 {
     if body.is_empty() {
         return None;
@@ -137,9 +137,9 @@ fn is_mac_length(alg: Alg, length: usize) -> bool
 }
 
 pub fn read_mac(body: &[u8]) -> Option<Request<'_>>
-    ensures read { option_map asked_of result ≡ mac_of body.now }
-    ensures in_range { IfSome result (λ request. IsInRange (asked_of request)) }
-    ensures asked { IfSome result (λ request. service_for (asked_of request) ≡ Service.Mac) }
+    ensures read { option_map request_value result ≡ mac_of body.now }
+    ensures in_range { IfSome result (λ request. IsInRange (request_value request)) }
+    ensures of_service { IfSome result (λ request. service_for (request_value request) ≡ Service.Mac) }
 {
     if body.len() < 3 {
         return None;
@@ -148,9 +148,9 @@ pub fn read_mac(body: &[u8]) -> Option<Request<'_>>
 }
 
 fn mac(slot: u8, alg: u8, length: u8, text: &[u8]) -> Option<Request<'_>>
-    ensures read { option_map asked_of result ≡ mac_with slot (alg_of alg) length text.now }
-    ensures in_range { IfSome result (λ request. IsInRange (asked_of request)) }
-    ensures asked { IfSome result (λ request. service_for (asked_of request) ≡ Service.Mac) }
+    ensures read { option_map request_value result ≡ mac_with slot (alg_of alg) length text.now }
+    ensures in_range { IfSome result (λ request. IsInRange (request_value request)) }
+    ensures of_service { IfSome result (λ request. service_for (request_value request) ≡ Service.Mac) }
 {
     let slot = SlotId::new(slot)?;
     let alg = Alg::from_number(alg)?;
@@ -167,9 +167,9 @@ fn mac(slot: u8, alg: u8, length: u8, text: &[u8]) -> Option<Request<'_>>
 }
 
 pub fn read_mac_verify(body: &[u8]) -> Option<Request<'_>>
-    ensures read { option_map asked_of result ≡ mac_verify_of body.now }
-    ensures in_range { IfSome result (λ request. IsInRange (asked_of request)) }
-    ensures asked { IfSome result (λ request. service_for (asked_of request) ≡ Service.MacVerify) }
+    ensures read { option_map request_value result ≡ mac_verify_of body.now }
+    ensures in_range { IfSome result (λ request. IsInRange (request_value request)) }
+    ensures of_service { IfSome result (λ request. service_for (request_value request) ≡ Service.MacVerify) }
 {
     if body.len() < 3 {
         return None;
@@ -177,21 +177,21 @@ pub fn read_mac_verify(body: &[u8]) -> Option<Request<'_>>
     mac_verify(body[0], body[1], body[2], &body[3..])
 }
 
-fn mac_verify(slot: u8, alg: u8, length: u8, rest: &[u8]) -> Option<Request<'_>>
-    ensures read { option_map asked_of result ≡ verify_with slot (alg_of alg) length rest.now }
-    ensures in_range { IfSome result (λ request. IsInRange (asked_of request)) }
-    ensures asked { IfSome result (λ request. service_for (asked_of request) ≡ Service.MacVerify) }
+fn mac_verify(slot: u8, alg: u8, length: u8, remainder: &[u8]) -> Option<Request<'_>>
+    ensures read { option_map request_value result ≡ verify_with slot (alg_of alg) length remainder.now }
+    ensures in_range { IfSome result (λ request. IsInRange (request_value request)) }
+    ensures of_service { IfSome result (λ request. service_for (request_value request) ≡ Service.MacVerify) }
 {
     let slot = SlotId::new(slot)?;
     let alg = Alg::from_number(alg)?;
     let length = usize::from(length);
-    if !is_mac_length(alg, length) || length > rest.len() {
+    if !is_mac_length(alg, length) || length > remainder.len() {
         return None;
     }
     Some(Request::MacVerify {
         slot,
         alg,
-        tag: &rest[..length],
-        text: &rest[length..],
+        tag: &remainder[..length],
+        text: &remainder[length..],
     })
 }

@@ -42,8 +42,8 @@ fn zero_used(buffer: &mut Vec<u8>, used: usize)
     requires { used ≤ length buffer.old.items }
     ensures { buffer.new.items ≡ replicate used 0 ++ drop used buffer.old.items }
 {
-    for place in 0..used {
-        buffer[place] = 0;
+    for offset in 0..used {
+        buffer[offset] = 0;
     }
 }
 

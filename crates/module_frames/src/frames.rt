@@ -1,10 +1,10 @@
-// Bytes in any pieces, and the commands that they spell.
+// Bytes in any pieces, and the commands that they encode.
 ghost use Rattle.std.specs.Prelude.{◌≡◌, ◌+◌, ◌-◌, ◌^◌, ◌≤◌, ◌<◌, ◌↔◌, ◌++◌, [], true, false, IfOk, IfSome, IsTrue, length, take, drop, min, None};
 ghost use Rattle.std.specs.Int.{to_be_bytes, w32};
 ghost use Rattle.module_frames.specs.Streams.{first_fault, body_length, length_bytes, is_wrong_at, is_too_long};
 ghost use Rattle.module_frames.specs.CommandFrames.{IsCommandFrame};
-ghost use Rattle.module_frames.specs.Steps.{TakesHeader};
-ghost use Rattle.module_frames.specs.Fragments.{Feeds, Stands, IsPartial, new_fragment, cleared_fragment};
+ghost use Rattle.module_frames.specs.Steps.{FeedsHeader};
+ghost use Rattle.module_frames.specs.Fragments.{Feeds, IsComplete, IsIncomplete, new_fragment, cleared_fragment};
 
 use crate::Command;
 use crate::command::BODY_MAX;
@@ -18,7 +18,7 @@ pub enum Fed {
     More,
     /// So many bytes of the piece were taken, and one command stands.
     Whole(usize),
-    /// The bytes show a fault at this place, its offset in the whole stream: that of the wrong byte, or of the first byte
+    /// The bytes show a fault at this offset, its start in the whole stream: that of the wrong byte, or of the first byte
     /// of a length that is too large.
     BadFrame(u64),
 }
@@ -27,7 +27,7 @@ pub enum Fed {
 /// By a rule of the type all its memory is zero but for the bytes held.
 #[derive(Drop)]
 pub struct Frames {
-    offset: u64,
+    start: u64,
     header: [u8; 8],
     count: usize,
     command: Command,
@@ -57,11 +57,11 @@ fn fill(header: &mut [u8; 8], count: usize, piece: &[u8]) -> usize
     taken
 }
 
-// Whether the byte at the place is there and isn't the wanted one.
-fn is_wrong_at(header: &[u8], place: usize, wanted: u8) -> bool
-    ensures { result ≡ is_wrong_at header.now place wanted }
+// Whether the byte at the offset is there and isn't the wanted one.
+fn is_wrong_at(header: &[u8], offset: usize, wanted: u8) -> bool
+    ensures { result ≡ is_wrong_at header.now offset wanted }
 {
-    match header.get(place) {
+    match header.get(offset) {
         Some(byte) => *byte != wanted,
         None => false,
     }
@@ -70,8 +70,8 @@ fn is_wrong_at(header: &[u8], place: usize, wanted: u8) -> bool
 // The length of the body that a whole header tells.
 fn body_length(header: &[u8]) -> usize
     requires { 8 ≤ length header.now }
-    ensures told { result ≡ body_length header.now }
-    ensures spelled { to_be_bytes w32 result ≡ length_bytes header.now }
+    ensures known { result ≡ body_length header.now }
+    ensures encoded { to_be_bytes w32 result ≡ length_bytes header.now }
 {
     u32::from_be_bytes([header[4], header[5], header[6], header[7]]) as usize
 }
@@ -83,11 +83,11 @@ fn is_too_long(header: &[u8]) -> bool
     header.len() >= 8 && body_length(header) > BODY_MAX
 }
 
-// The place of the first fault that the bytes of a header show.
+// The offset of the first fault that the bytes of a header show.
 #[tactic(auto, unfolding(crate::specs::Streams::first_fault))]
 fn first_fault(header: &[u8]) -> Option<u64>
-    ensures place { result ≡ first_fault header.now }
-    ensures front { IfSome result (λ place. place ≤ 4) }
+    ensures offset { result ≡ first_fault header.now }
+    ensures front { IfSome result (λ offset. offset ≤ 4) }
 {
     if is_wrong_at(header, 0, 0xc5) {
         Some(0)
@@ -106,11 +106,11 @@ impl Frames {
     /// Holds nothing; a stream begins.
     pub fn new(alloc: Global) -> Result<Frames, AllocError>
         ensures new { IfOk result (λ frames. frames ≡ new_fragment) }
-        ensures partial { IfOk result (λ frames. IsPartial frames.bytes) }
+        ensures incomplete { IfOk result (λ frames. IsIncomplete frames.bytes) }
     {
         let command = Command::new(alloc)?;
         Ok(Frames {
-            offset: 0,
+            start: 0,
             header: [0; 8],
             count: 0,
             command,
@@ -118,11 +118,11 @@ impl Frames {
         })
     }
 
-    // Fills the header up, and says how many bytes it took, or at which place in the stream the bytes show a fault.
+    // Fills the header up, and says how many bytes it took, or at which offset in the stream the bytes show a fault.
     fn take_header(&mut self, piece: &[u8]) -> Result<usize, u64>
-        requires sound { self.old.fault ≡ None }
-        requires short { self.old.offset + length self.old.bytes + length piece.now ≤ 2 ^ 63 }
-        ensures { TakesHeader self.old piece.now result self.new }
+        requires no_fault { self.old.fault ≡ None }
+        requires short { self.old.start + length self.old.bytes + length piece.now ≤ 2 ^ 63 }
+        ensures { FeedsHeader self.old piece.now result self.new }
     {
         if self.count == 8 {
             return Ok(0);
@@ -130,11 +130,11 @@ impl Frames {
         let taken = fill(&mut self.header, self.count, piece);
         self.count += taken;
         if let Some(within) = first_fault(&self.header[..self.count]) {
-            let place = self.offset + within;
+            let offset = self.start + within;
             self.header = [0; 8];
             self.count = 0;
-            self.fault = Some(place);
-            return Err(place);
+            self.fault = Some(offset);
+            return Err(offset);
         }
         if self.count == 8 {
             self.command.start(self.header[2]);
@@ -142,11 +142,11 @@ impl Frames {
         Ok(taken)
     }
 
-    // Takes bytes of the body, and says how many.
+    // FeedsPiece bytes of the body, and says how many.
     fn take_body(&mut self, piece: &[u8]) -> usize
-        requires sound { self.old.fault ≡ None }
+        requires no_fault { self.old.fault ≡ None }
         requires headed { 8 ≤ length self.old.bytes }
-        requires short { self.old.offset + length self.old.bytes + length piece.now ≤ 2 ^ 63 }
+        requires short { self.old.start + length self.old.bytes + length piece.now ≤ 2 ^ 63 }
         ensures taken { result ≡ min (8 + body_length self.old.bytes - length self.old.bytes) (length piece.now) }
         ensures held { self.new ≡ record self.old { bytes = self.old.bytes ++ take result piece.now } }
     {
@@ -159,27 +159,27 @@ impl Frames {
     // Whether a whole command stands; where none does, one may go on so.
     fn is_whole(&self) -> bool
         requires { self.now.fault ≡ None }
-        ensures whole { result ≡ true → Stands self.now }
-        ensures partial { result ≡ false → IsPartial self.now.bytes }
+        ensures whole { result ≡ true → IsComplete self.now }
+        ensures incomplete { result ≡ false → IsIncomplete self.now.bytes }
         ensures short { result ≡ false → 8 ≤ length self.now.bytes → length self.now.bytes < 8 + body_length self.now.bytes }
     {
         self.count == 8 && self.command.body().len() == body_length(&self.header)
     }
 
-    /// Takes bytes from the front of the next piece of the stream, up to the end of a command.
-    /// Once it has answered `BadFrame` it holds nothing, and answers the same place for good.
+    /// FeedsPiece bytes from the front of the next piece of the stream, up to the end of a command.
+    /// Once it has answered `BadFrame` it holds nothing, and answers the same offset for good.
     /// Where a command stands it takes nothing, and answers `Whole(0)`.
     /// All pieces of a stream together have at most 2^63 bytes.
     pub fn feed(&mut self, piece: &[u8]) -> Fed
-        requires { self.old.offset + length self.old.bytes + length piece.now ≤ 2 ^ 63 }
+        requires { self.old.start + length self.old.bytes + length piece.now ≤ 2 ^ 63 }
         ensures { Feeds self.old piece.now result self.new }
     {
-        if let Some(place) = self.fault {
-            return Fed::BadFrame(place);
+        if let Some(offset) = self.fault {
+            return Fed::BadFrame(offset);
         }
         let head = match self.take_header(piece) {
             Ok(head) => head,
-            Err(place) => return Fed::BadFrame(place),
+            Err(offset) => return Fed::BadFrame(offset),
         };
         if self.count < 8 {
             return Fed::More;
@@ -194,18 +194,18 @@ impl Frames {
 
     /// The command that stands.
     pub fn command(&self) -> &Command
-        requires { Stands self.now }
+        requires { IsComplete self.now }
         ensures { IsCommandFrame result.now self.now.bytes }
     {
         &self.command
     }
 
-    /// Forgets what is held, a fragment or the command that stands. No byte of it stays; the place of a fault does.
+    /// Forgets what is held, a fragment or the command that stands. No byte of it stays; the offset of a fault does.
     pub fn clear(&mut self)
         ensures cleared { self.new ≡ cleared_fragment self.old }
-        ensures partial { IsPartial self.new.bytes }
+        ensures incomplete { IsIncomplete self.new.bytes }
     {
-        self.offset += (self.count + self.command.body().len()) as u64;
+        self.start += (self.count + self.command.body().len()) as u64;
         self.header = [0; 8];
         self.count = 0;
         self.command.clear();

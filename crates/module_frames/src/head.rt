@@ -40,7 +40,7 @@ fn indicated(indicator: u8) -> Option<bool>
 
 // The error code.
 fn code(bytes: &[u8; 24]) -> u16
-    ensures spelled { to_be_bytes w16 result ≡ take 2 (drop 6 bytes.now) }
+    ensures encoded { to_be_bytes w16 result ≡ take 2 (drop 6 bytes.now) }
     ensures in_range { result < 2 ^ 16 }
 {
     u16::from_be_bytes([bytes[6], bytes[7]])
@@ -57,7 +57,7 @@ fn block(bytes: &[u8; 24]) -> [u8; 12]
 
 // The length of the payload.
 fn payload_length(bytes: &[u8; 24]) -> u32
-    ensures spelled { to_be_bytes w32 result ≡ drop 20 bytes.now }
+    ensures encoded { to_be_bytes w32 result ≡ drop 20 bytes.now }
     ensures in_range { result < 2 ^ 32 }
 {
     u32::from_be_bytes([bytes[20], bytes[21], bytes[22], bytes[23]])

@@ -1,7 +1,7 @@
 // What the body of a command asks for.
 ghost use Rattle.std.specs.Prelude.{◌≡◌, IfSome};
 ghost use Rattle.std.specs.Option.{option_map};
-ghost use Rattle.module_frames.specs.Requests.{asked_of, request_of, service_for, IsInRange};
+ghost use Rattle.module_frames.specs.Requests.{request_value, request_of, service_for, IsInRange};
 
 use crate::bodies::{
     read_commit, read_entry_begin, read_hash, read_mac, read_mac_verify, read_piece, read_power_on,
@@ -68,16 +68,16 @@ pub enum Request<'a> {
     },
 }
 
-/// The request that the body spells for the service. `None` exactly where the body isn't of the service's form:
+/// The request that the body encodes for the service. `None` exactly where the body isn't of the service's form:
 /// for `PowerOn` a number of four bytes, at most 1,000,000; for `SelectRole` a byte of at most 2; for `EntryBegin`
 /// slot, kind, domain, export flag, uses (four bytes, at least 1) and a length that fits; for `EntryBytes` 1 to 64
 /// bytes; for `EntryCommit` 8 bytes; for `Zeroise` and `ShowSlot` the byte of a slot's number, at most 15; for `Hash` the
 /// byte of an algorithm and the text; for `Mac` slot, algorithm, the MAC's length (1 to the hash's size) and the text; for
 /// `MacVerify` the same with the MAC in front of the text; and no byte for the others.
 pub fn read_request<'a>(service: Service, body: &'a [u8]) -> Option<Request<'a>>
-    ensures read { option_map asked_of result ≡ request_of service body.now }
-    ensures in_range { IfSome result (λ request. IsInRange (asked_of request)) }
-    ensures asked { IfSome result (λ request. service_for (asked_of request) ≡ service) }
+    ensures read { option_map request_value result ≡ request_of service body.now }
+    ensures in_range { IfSome result (λ request. IsInRange (request_value request)) }
+    ensures of_service { IfSome result (λ request. service_for (request_value request) ≡ service) }
 {
     match service {
         Service::PowerOn => read_power_on(body),

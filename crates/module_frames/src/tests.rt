@@ -57,8 +57,8 @@ fn heads_are_read(rt: HostRuntime) {
 
 #[test]
 fn broken_heads_are_refused(rt: HostRuntime) {
-    // The places of the first byte, the version, the status, the state, the indicator and the length's last byte.
-    for (place, byte) in [
+    // The offsets of the first byte, the version, the status, the state, the indicator and the length's last byte.
+    for (offset, byte) in [
         (0usize, 0xc5u8),
         (1, 0x02),
         (3, 0xff),
@@ -67,7 +67,7 @@ fn broken_heads_are_refused(rt: HostRuntime) {
         (23, 0x81),
     ] {
         let mut bytes = LONGEST;
-        bytes[place] = byte;
+        bytes[offset] = byte;
         assert!(rt; reply_head(&bytes).is_none());
     }
 }
@@ -200,9 +200,9 @@ fn a_mac_has_at_most_the_size_of_the_hash(rt: HostRuntime) {
         let long = usize::from(size);
         let numbers = (7, alg, long);
         let text = [7u8; 67];
-        let (tag, rest) = (&text[..long], &text[long..]);
+        let (tag, remainder) = (&text[..long], &text[long..]);
         assert!(rt; asks(Service::Mac, &body, numbers, &[], &text));
-        assert!(rt; asks(Service::MacVerify, &body, numbers, tag, rest));
+        assert!(rt; asks(Service::MacVerify, &body, numbers, tag, remainder));
         assert!(rt; asks(Service::MacVerify, &body[..long + 3], numbers, tag, &[]));
         assert!(rt; read_request(Service::MacVerify, &body[..long + 2]).is_none());
         body[2] = size + 1;

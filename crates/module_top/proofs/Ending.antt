@@ -14,14 +14,14 @@ use Rattle.module_top.specs.Desk.{Desk, Served}
 use Rattle.module_top.specs.Serving.{Streams, Answered, Serves, IsAllOf, stream_max}
 
 -- what was served from the stream's beginning is the run over it
-pub answered_of : {V : Type 0} (calls : Calls V) {a b : Desk V} {taken rest : List ℕ} (left now : Option (List ℕ)) (s : MachineState V) → Represents a.kept s → Served calls a [] taken rest b → BeginsNoCommand rest
-    → Answered calls s taken rest b.kept (record { left = left; gained = a.gained }) (record { left = now; gained = b.gained })
-answered_of calls {a} {b} {taken} {rest} left now s represents served unfinished =
+pub answered_of : {V : Type 0} (calls : Calls V) {a b : Desk V} {taken remainder : List ℕ} (left now : Option (List ℕ)) (s : MachineState V) → Represents a.kept s → Served calls a [] taken remainder b → BeginsNoCommand remainder
+    → Answered calls s taken remainder b.kept (record { left = left; gained = a.gained }) (record { left = now; gained = b.gained })
+answered_of calls {a} {b} {taken} {remainder} left now s represents served unfinished =
     let did = served.each s represents in
     record {
       machine = did.0;
       out = did.1;
-      runs = record { commands = did.4.commands; splits = record { spelled = did.4.whole; sendable = did.4.sendable; unfinished = unfinished }; ran = did.4.ran };
+      runs = record { commands = did.4.commands; parses = record { encoded = did.4.whole; sendable = did.4.sendable; unfinished = unfinished }; ran = did.4.ran };
       represents = did.2;
       gained = did.3;
     }
@@ -34,20 +34,20 @@ all_of (Some all) mid taken takes spent =
     takes.1 ∙ ap (λ xs. taken ++ xs) none ∙ append-nil taken
 
 -- a source that ended
-pub ends_at : {V : Type 0} (calls : Calls V) (start : ℕ) (rest : List ℕ) (how : Ended) (taken : List ℕ) (s : MachineState V) (m : Kept V) (before after : Streams) → how ≡ ending_of start rest → first_fault rest ≡ None
-    → Takes before.left taken after.left → Answered calls s taken rest m before after → length taken < stream_max → IsAllOf taken before.left → Serves calls how s m before after
-ends_at calls start [] how taken s m before after is sound takes answered less spent =
+pub ends_at : {V : Type 0} (calls : Calls V) (start : ℕ) (remainder : List ℕ) (how : Ended) (taken : List ℕ) (s : MachineState V) (m : Kept V) (before after : Streams) → how ≡ ending_of start remainder → first_fault remainder ≡ None
+    → Takes before.left taken after.left → Answered calls s taken remainder m before after → length taken < stream_max → IsAllOf taken before.left → Serves calls how s m before after
+ends_at calls start [] how taken s m before after is no_fault takes answered less spent =
     subst (λ h. Serves calls h s m before after) (sym is) (taken, [], takes, answered, (refl, less, spent))
-ends_at calls start (byte ∷ rest) how taken s m before after is sound takes answered less spent =
-    let truncated : (place : ℕ) → ending_of place (byte ∷ rest) ≡ ended.Truncated = λ place. rw sound refl in
-    subst (λ h. Serves calls h s m before after) (sym (is ∙ truncated start)) (taken, byte ∷ rest, takes, answered, (truncated _, less, spent))
+ends_at calls start (byte ∷ remainder) how taken s m before after is no_fault takes answered less spent =
+    let truncated : (offset : ℕ) → ending_of offset (byte ∷ remainder) ≡ ended.Truncated = λ offset. rw no_fault refl in
+    subst (λ h. Serves calls h s m before after) (sym (is ∙ truncated start)) (taken, byte ∷ remainder, takes, answered, (truncated _, less, spent))
 
--- a rest that shows a fault, whatever the end without it
-pub broken_other : (start : ℕ) (rest : List ℕ) (place : ℕ) (other : Ended) → fault_from start rest ≡ Some place → fault_or start rest other ≡ ended.BadFrame place
-broken_other start rest place other fault = ap (λ found. option_map_or (λ p. ended.BadFrame p) found other) fault
+-- a remainder that shows a fault, whatever the end without it
+pub broken_other : (start : ℕ) (remainder : List ℕ) (offset : ℕ) (other : Ended) → fault_from start remainder ≡ Some offset → fault_or start remainder other ≡ ended.BadFrame offset
+broken_other start remainder offset other fault = ap (λ found. option_map_or (λ p. ended.BadFrame p) found other) fault
 
--- a stream that leaves such a rest ends so
-pub broken_ending : (start : ℕ) (rest : List ℕ) (place : ℕ) → fault_from start rest ≡ Some place → ending_of start rest ≡ ended.BadFrame place
+-- a stream that leaves such a remainder ends so
+pub broken_ending : (start : ℕ) (remainder : List ℕ) (offset : ℕ) → fault_from start remainder ≡ Some offset → ending_of start remainder ≡ ended.BadFrame offset
 unfolding first_fault body_length
-broken_ending start [] place fault = cc
-broken_ending start (byte ∷ rest) place fault = broken_other start (byte ∷ rest) place ended.Truncated fault
+broken_ending start [] offset fault = cc
+broken_ending start (byte ∷ remainder) offset fault = broken_other start (byte ∷ remainder) offset ended.Truncated fault

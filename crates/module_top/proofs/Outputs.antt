@@ -6,12 +6,12 @@ use Rattle.std.proofs.Math.Seq.{take-add}
 use Rattle.engine_core.specs.Calls.{Calls}
 use Rattle.module_frames.specs.Streams.{fault_from}
 use Rattle.module_frames.proofs.Headers.{fault_stays, fault_from_stays, shown_fault}
-use Rattle.module_frames.proofs.Spellings.{broken_begins_none}
+use Rattle.module_frames.proofs.CommandEncodings.{broken_begins_none}
 use Rattle.state_model.specs.Kept.{Kept}
 use Rattle.state_model.specs.MachineState.{MachineState, initial_state}
 use Rattle.module_top.specs.declared.serving.Ended.{Ended}
 use Rattle.module_top.specs.declared.serving.Ended.TheVariants as ended
-use Rattle.module_top.specs.Run.{Runs, rest_start, fault_or, ending_of}
+use Rattle.module_top.specs.Run.{Runs, remainder_start, fault_or, ending_of}
 use Rattle.module_top.specs.Serving.{Streams, Answered, Serves, stream_max}
 use Rattle.module_top.specs.Program.{serve_words, exit_status, IsProgramOutput}
 use Rattle.module_top.proofs.Ending.{broken_other, broken_ending}
@@ -19,7 +19,7 @@ use Rattle.module_top.proofs.Ending.{broken_other, broken_ending}
 -- serving ends with no status of another cause
 pub never_usage : (how : Ended) → exit_status how ≢ 2
 never_usage ended.End = λ h. omega arith
-never_usage (ended.BadFrame place) = λ h. omega arith
+never_usage (ended.BadFrame offset) = λ h. omega arith
 never_usage ended.Truncated = λ h. omega arith
 never_usage ended.ReadFault = λ h. omega arith
 never_usage ended.WriteFault = λ h. omega arith
@@ -27,7 +27,7 @@ never_usage ended.Limit = λ h. omega arith
 
 pub never_memory : (how : Ended) → exit_status how ≢ 7
 never_memory ended.End = λ h. omega arith
-never_memory (ended.BadFrame place) = λ h. omega arith
+never_memory (ended.BadFrame offset) = λ h. omega arith
 never_memory ended.Truncated = λ h. omega arith
 never_memory ended.ReadFault = λ h. omega arith
 never_memory ended.WriteFault = λ h. omega arith
@@ -35,7 +35,7 @@ never_memory ended.Limit = λ h. omega arith
 
 pub read_fault_of : (how : Ended) → exit_status how ≡ 5 → how ≡ ended.ReadFault
 read_fault_of ended.End h = absurd (omega arith)
-read_fault_of (ended.BadFrame place) h = absurd (omega arith)
+read_fault_of (ended.BadFrame offset) h = absurd (omega arith)
 read_fault_of ended.Truncated h = absurd (omega arith)
 read_fault_of ended.ReadFault h = refl
 read_fault_of ended.WriteFault h = absurd (omega arith)
@@ -43,32 +43,32 @@ read_fault_of ended.Limit h = absurd (omega arith)
 
 pub write_fault_of : (how : Ended) → exit_status how ≡ 6 → how ≡ ended.WriteFault
 write_fault_of ended.End h = absurd (omega arith)
-write_fault_of (ended.BadFrame place) h = absurd (omega arith)
+write_fault_of (ended.BadFrame offset) h = absurd (omega arith)
 write_fault_of ended.Truncated h = absurd (omega arith)
 write_fault_of ended.ReadFault h = absurd (omega arith)
 write_fault_of ended.WriteFault h = refl
 write_fault_of ended.Limit h = absurd (omega arith)
 
-chosen_fault : (found : Option ℕ) (place : ℕ) → option_map_or (λ p. ended.BadFrame p) found ended.Truncated ≡ ended.BadFrame place → found ≡ Some place
-chosen_fault None place h = cc
-chosen_fault (Some p) place h = cc
+chosen_fault : (found : Option ℕ) (offset : ℕ) → option_map_or (λ p. ended.BadFrame p) found ended.Truncated ≡ ended.BadFrame offset → found ≡ Some offset
+chosen_fault None offset h = cc
+chosen_fault (Some p) offset h = cc
 
--- a stream that ends as a bad frame shows its fault at that place
-ending_fault : (start : ℕ) (rest : List ℕ) (place : ℕ) → ending_of start rest ≡ ended.BadFrame place → fault_from start rest ≡ Some place
-ending_fault start [] place h = cc
-ending_fault start (byte ∷ rest) place h = chosen_fault (fault_from start (byte ∷ rest)) place h
+-- a stream that ends as a bad frame shows its fault at that offset
+ending_fault : (start : ℕ) (remainder : List ℕ) (offset : ℕ) → ending_of start remainder ≡ ended.BadFrame offset → fault_from start remainder ≡ Some offset
+ending_fault start [] offset h = cc
+ending_fault start (byte ∷ remainder) offset h = chosen_fault (fault_from start (byte ∷ remainder)) offset h
 
--- once a rest shows a fault the run is over, whatever follows
-run_stays : {V : Type 0} (calls : Calls V) {s t : MachineState V} {bytes out rest : List ℕ} (more : List ℕ) (start place : ℕ) → fault_from start rest ≡ Some place → Runs calls s bytes t out rest
-    → Runs calls s (bytes ++ more) t out (rest ++ more)
-run_stays calls {s} {t} {bytes} {out} {rest} more start place fault runs =
-    let shown = shown_fault start rest place fault in
+-- once a remainder shows a fault the run is over, whatever follows
+run_stays : {V : Type 0} (calls : Calls V) {s t : MachineState V} {bytes out remainder : List ℕ} (more : List ℕ) (start offset : ℕ) → fault_from start remainder ≡ Some offset → Runs calls s bytes t out remainder
+    → Runs calls s (bytes ++ more) t out (remainder ++ more)
+run_stays calls {s} {t} {bytes} {out} {remainder} more start offset fault runs =
+    let shown = shown_fault start remainder offset fault in
     record {
       commands = runs.commands;
-      splits = record {
-        spelled = ap (λ xs. xs ++ more) runs.splits.spelled ∙ append_assoc _ rest more;
-        sendable = runs.splits.sendable;
-        unfinished = broken_begins_none (rest ++ more) shown.0 (fault_stays rest more shown.0 shown.1);
+      parses = record {
+        encoded = ap (λ xs. xs ++ more) runs.parses.encoded ∙ append_assoc _ remainder more;
+        sendable = runs.parses.sendable;
+        unfinished = broken_begins_none (remainder ++ more) shown.0 (fault_stays remainder more shown.0 shown.1);
       };
       ran = runs.ran;
     }
@@ -82,19 +82,19 @@ take_past n first more h =
     ∙ ap (λ xs. xs ++ take (n - length first) (drop (length first) (first ++ more))) (take_at first more (length first) refl)
     ∙ ap (λ xs. first ++ take (n - length first) xs) (drop_at first more (length first) refl)
 
--- a rest begins where it did, however bytes and rest go on
-start_stays : (bytes rest more all : List ℕ) → all ≡ bytes ++ more → rest_start all (rest ++ more) ≡ rest_start bytes rest
-start_stays bytes rest more all e = omega (arith, ap length e, length-append bytes more, length-append rest more)
+-- a remainder begins where it did, however bytes and remainder go on
+start_stays : (bytes remainder more all : List ℕ) → all ≡ bytes ++ more → remainder_start all (remainder ++ more) ≡ remainder_start bytes remainder
+start_stays bytes remainder more all e = omega (arith, ap length e, length-append bytes more, length-append remainder more)
 
 -- a source that was read to its end
-output_at_end : {V : Type 0} (calls : Calls V) (engine : V) (words : List (List ℕ)) (how : Ended) (m : Kept V) (bytes before taken rest : List ℕ) (after : Streams) → words ≡ serve_words
-    → Answered calls (initial_state engine) taken rest m (record { left = Some bytes; gained = Some before }) after → ending_of (rest_start taken rest) rest ≡ how → length taken < stream_max → bytes ≡ taken
+output_at_end : {V : Type 0} (calls : Calls V) (engine : V) (words : List (List ℕ)) (how : Ended) (m : Kept V) (bytes before taken remainder : List ℕ) (after : Streams) → words ≡ serve_words
+    → Answered calls (initial_state engine) taken remainder m (record { left = Some bytes; gained = Some before }) after → ending_of (remainder_start taken remainder) remainder ≡ how → length taken < stream_max → bytes ≡ taken
     → (out : List ℕ) × IsProgramOutput calls engine words bytes (exit_status how) out × (after.gained ≡ Some (before ++ out))
-output_at_end calls engine words how m bytes before taken rest after is answered e less all = (
+output_at_end calls engine words how m bytes before taken remainder after is answered e less all = (
   answered.out,
   record {
     usage = λ other. absurd (other is);
-    serve = λ _ _. (answered.machine, rest, subst (λ xs. Runs calls (initial_state engine) xs answered.machine answered.out rest) (sym all) answered.runs, ap exit_status (sym e ∙ ap (λ xs. ending_of (rest_start xs rest) rest) (sym all)));
+    serve = λ _ _. (answered.machine, remainder, subst (λ xs. Runs calls (initial_state engine) xs answered.machine answered.out remainder) (sym all) answered.runs, ap exit_status (sym e ∙ ap (λ xs. ending_of (remainder_start xs remainder) remainder) (sym all)));
     too_long = λ _ long. absurd (omega (arith, ap length all, less, long));
   },
   answered.gained,
@@ -104,13 +104,13 @@ output_at_end calls engine words how m bytes before taken rest after is answered
 pub output_of : {V : Type 0} (calls : Calls V) (engine : V) (words : List (List ℕ)) (how : Ended) (m : Kept V) (bytes before : List ℕ) (after : Streams) → words ≡ serve_words
     → Serves calls how (initial_state engine) m (record { left = Some bytes; gained = Some before }) after → exit_status how ≢ 5 → exit_status how ≢ 6
     → (out : List ℕ) × IsProgramOutput calls engine words bytes (exit_status how) out × (after.gained ≡ Some (before ++ out))
-output_of calls engine words ended.End m bytes before after is (taken, rest, takes, answered, ends) no_read no_write =
-    output_at_end calls engine words ended.End m bytes before taken rest after is answered ends.0 ends.1 ends.2
-output_of calls engine words ended.Truncated m bytes before after is (taken, rest, takes, answered, ends) no_read no_write =
-    output_at_end calls engine words ended.Truncated m bytes before taken rest after is answered ends.0 ends.1 ends.2
-output_of calls engine words (ended.BadFrame place) m bytes before after is (taken, rest, takes, answered, ends) no_read no_write =
-    let start = rest_start taken rest in
-    let fault : fault_from start rest ≡ Some place = ending_fault start rest place ends.0 in
+output_of calls engine words ended.End m bytes before after is (taken, remainder, takes, answered, ends) no_read no_write =
+    output_at_end calls engine words ended.End m bytes before taken remainder after is answered ends.0 ends.1 ends.2
+output_of calls engine words ended.Truncated m bytes before after is (taken, remainder, takes, answered, ends) no_read no_write =
+    output_at_end calls engine words ended.Truncated m bytes before taken remainder after is answered ends.0 ends.1 ends.2
+output_of calls engine words (ended.BadFrame offset) m bytes before after is (taken, remainder, takes, answered, ends) no_read no_write =
+    let start = remainder_start taken remainder in
+    let fault : fault_from start remainder ≡ Some offset = ending_fault start remainder offset ends.0 in
     let more = takes.0 in
     let cut = take (stream_max - length taken) more in
     let first : take stream_max bytes ≡ taken ++ cut = ap (λ xs. take stream_max xs) takes.1 ∙ take_past stream_max taken more ends.1 in (
@@ -119,28 +119,28 @@ output_of calls engine words (ended.BadFrame place) m bytes before after is (tak
         usage = λ other. absurd (other is);
         serve = λ _ _. (
           answered.machine,
-          rest ++ more,
-          subst (λ xs. Runs calls (initial_state engine) xs answered.machine answered.out (rest ++ more)) (sym takes.1) (run_stays calls more start place fault answered.runs),
-          ap exit_status (sym (ap (λ n. ending_of n (rest ++ more)) (start_stays taken rest more bytes takes.1) ∙ broken_ending start (rest ++ more) place (fault_from_stays start rest more place fault))),
+          remainder ++ more,
+          subst (λ xs. Runs calls (initial_state engine) xs answered.machine answered.out (remainder ++ more)) (sym takes.1) (run_stays calls more start offset fault answered.runs),
+          ap exit_status (sym (ap (λ n. ending_of n (remainder ++ more)) (start_stays taken remainder more bytes takes.1) ∙ broken_ending start (remainder ++ more) offset (fault_from_stays start remainder more offset fault))),
         );
         too_long = λ _ _. (
           answered.machine,
-          rest ++ cut,
-          subst (λ xs. Runs calls (initial_state engine) xs answered.machine answered.out (rest ++ cut)) (sym first) (run_stays calls cut start place fault answered.runs),
-          ap exit_status (sym (ap (λ n. fault_or n (rest ++ cut) ended.Limit) (start_stays taken rest cut (take stream_max bytes) first) ∙ broken_other start (rest ++ cut) place ended.Limit (fault_from_stays start rest cut place fault))),
+          remainder ++ cut,
+          subst (λ xs. Runs calls (initial_state engine) xs answered.machine answered.out (remainder ++ cut)) (sym first) (run_stays calls cut start offset fault answered.runs),
+          ap exit_status (sym (ap (λ n. fault_or n (remainder ++ cut) ended.Limit) (start_stays taken remainder cut (take stream_max bytes) first) ∙ broken_other start (remainder ++ cut) offset ended.Limit (fault_from_stays start remainder cut offset fault))),
         );
       },
       answered.gained,
     )
-output_of calls engine words ended.Limit m bytes before after is (taken, rest, takes, answered, ends) no_read no_write = (
+output_of calls engine words ended.Limit m bytes before after is (taken, remainder, takes, answered, ends) no_read no_write = (
   answered.out,
   record {
     usage = λ other. absurd (other is);
     serve = λ _ less. absurd (omega (arith, ap length takes.1, length-append taken takes.0, ends.0, less));
     too_long = λ _ _. (
       answered.machine,
-      rest,
-      subst (λ xs. Runs calls (initial_state engine) xs answered.machine answered.out rest) (sym (ap (λ xs. take stream_max xs) takes.1 ∙ take_at taken takes.0 stream_max ends.0)) answered.runs,
+      remainder,
+      subst (λ xs. Runs calls (initial_state engine) xs answered.machine answered.out remainder) (sym (ap (λ xs. take stream_max xs) takes.1 ∙ take_at taken takes.0 stream_max ends.0)) answered.runs,
       rw ends.1 refl,
     );
   },

@@ -6,7 +6,7 @@ use Rattle.engine_core.specs.Calls.{Calls}
 use Rattle.outside.specs.Contents.{Gains}
 use Rattle.module_frames.specs.declared.frames.Fed.TheVariants as fed
 use Rattle.module_frames.specs.CommandFrames.{CommandFrame, IsCommandFrame}
-use Rattle.module_frames.specs.Fragments.{Fragment, Takes, IsPartial}
+use Rattle.module_frames.specs.Fragments.{Fragment, FeedsPiece, IsIncomplete}
 use Rattle.state_model.specs.MachineState.{MachineState}
 use Rattle.state_model.specs.Represents.{Represents}
 use Rattle.state_model.specs.Step.{step}
@@ -18,38 +18,38 @@ use Rattle.module_top.proofs.Going.{served_held, served_both, cut_both, went_com
 pub record Underway {V : Type 0} (calls : Calls V) (start : Desk V) (old : Fragment) (piece : List ℕ) (done : ℕ) (mid : Fragment) (desk : Desk V) : Type 0 where
   pub within : done ≤ length piece
   pub served : Served calls start old.bytes (take done piece) mid.bytes desk
-  pub partial : IsPartial mid.bytes
-  pub sound : mid.fault ≡ None
-  pub place : mid.offset + length mid.bytes ≡ old.offset + length old.bytes + done
+  pub incomplete : IsIncomplete mid.bytes
+  pub no_fault : mid.fault ≡ None
+  pub offset : mid.start + length mid.bytes ≡ old.start + length old.bytes + done
 
--- the rest of the piece is held
+-- the remainder of the piece is held
 pub all_served : {V : Type 0} (calls : Calls V) {start desk : Desk V} {old mid new : Fragment} {piece : List ℕ} {done : ℕ} → Underway calls start old piece done mid desk
-    → Takes mid (drop done piece) fed.More new → ServedAll calls start old piece new desk
+    → FeedsPiece mid (drop done piece) fed.More new → ServedAll calls start old piece new desk
 all_served calls {start} {desk} {old} {mid} {new} {piece} {done} way took =
     let bytes : new.bytes ≡ mid.bytes ++ drop done piece = ap (λ (f : Fragment). f.bytes) took.0 in
-    let offset : new.offset ≡ mid.offset = ap (λ (f : Fragment). f.offset) took.0 in
+    let start : new.start ≡ mid.start = ap (λ (f : Fragment). f.start) took.0 in
     record {
       served = subst (λ p. Served calls start old.bytes p new.bytes desk) (take-append-drop done piece) (served_both calls way.served (served_held calls desk mid.bytes (drop done piece) new.bytes bytes));
-      partial = took.1;
-      sound = ap (λ (f : Fragment). f.fault) took.0 ∙ way.sound;
-      place = omega (arith, offset, ap length bytes, length-append mid.bytes (drop done piece), length-drop done piece, way.place, way.within);
+      incomplete = took.1;
+      no_fault = ap (λ (f : Fragment). f.fault) took.0 ∙ way.no_fault;
+      offset = omega (arith, start, ap length bytes, length-append mid.bytes (drop done piece), length-drop done piece, way.offset, way.within);
     }
 
--- the rest of the piece shows a fault
-pub fault_served : {V : Type 0} (calls : Calls V) {start desk : Desk V} {old mid new : Fragment} {piece : List ℕ} {done place : ℕ} → Underway calls start old piece done mid desk
-    → Takes mid (drop done piece) (fed.BadFrame place) new → ServedToFault calls start old piece place desk
-fault_served calls {start} {desk} {old} {mid} {new} {piece} {done} {place} way took = record {
-  rest = mid.bytes ++ drop done piece;
-  start = mid.offset;
+-- the remainder of the piece shows a fault
+pub fault_served : {V : Type 0} (calls : Calls V) {start desk : Desk V} {old mid new : Fragment} {piece : List ℕ} {done offset : ℕ} → Underway calls start old piece done mid desk
+    → FeedsPiece mid (drop done piece) (fed.BadFrame offset) new → ServedToFault calls start old piece offset desk
+fault_served calls {start} {desk} {old} {mid} {new} {piece} {done} {offset} way took = record {
+  remainder = mid.bytes ++ drop done piece;
+  start = mid.start;
   served = subst (λ p. Served calls start old.bytes p (mid.bytes ++ drop done piece) desk) (take-append-drop done piece)
       (served_both calls way.served (served_held calls desk mid.bytes (drop done piece) (mid.bytes ++ drop done piece) refl));
-  begins = omega (arith, length-append mid.bytes (drop done piece), length-drop done piece, way.place, way.within);
+  begins = omega (arith, length-append mid.bytes (drop done piece), length-drop done piece, way.offset, way.within);
   fault = took.1;
 }
 
 -- a command became whole, and was done and answered
 pub command_served : {V : Type 0} (calls : Calls V) {start desk next : Desk V} {old mid new : Fragment} {piece : List ℕ} {done count : ℕ} {command : CommandFrame} → Underway calls start old piece done mid desk
-    → Takes mid (drop done piece) (fed.Whole count) new → IsCommandFrame command new.bytes
+    → FeedsPiece mid (drop done piece) (fed.Whole count) new → IsCommandFrame command new.bytes
     → ((s : MachineState V) → Represents desk.kept s → Represents next.kept (step calls s command).machine)
     → ((s : MachineState V) → Represents desk.kept s → Gains desk.gained (reply_bytes calls s command) next.gained)
     → Served calls start old.bytes (take (done + count) piece) [] next
@@ -68,7 +68,7 @@ command_served calls {start} {desk} {next} {old} {mid} {new} {piece} {done} {cou
 
 -- a command became whole and was done, and a part of its reply was written
 pub command_cut : {V : Type 0} (calls : Calls V) {start desk next : Desk V} {old mid new : Fragment} {piece : List ℕ} {done count : ℕ} {command : CommandFrame} → Underway calls start old piece done mid desk
-    → Takes mid (drop done piece) (fed.Whole count) new → IsCommandFrame command new.bytes
+    → FeedsPiece mid (drop done piece) (fed.Whole count) new → IsCommandFrame command new.bytes
     → ((s : MachineState V) → Represents desk.kept s → Represents next.kept (step calls s command).machine)
     → ((s : MachineState V) → Represents desk.kept s → (k : ℕ) × (k < length (reply_bytes calls s command)) × Gains desk.gained (take k (reply_bytes calls s command)) next.gained)
     → CutShort calls start old.bytes piece next

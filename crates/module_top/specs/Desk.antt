@@ -3,15 +3,15 @@ use Rattle.std.specs.Prelude.{◌≡◌, ◌<◌, ◌+◌, ◌++◌, ℕ, List, 
 use Rattle.std.specs.List.{flat_map, AllByRecursion}
 use Rattle.outside.specs.Contents.{Gains}
 use Rattle.engine_core.specs.Calls.{Calls}
-use Rattle.module_frames.specs.CommandFrames.{CommandFrame, command_spelling, IsSendable}
-use Rattle.module_frames.specs.Fragments.{Fragment, IsPartial, IsBrokenAt}
+use Rattle.module_frames.specs.CommandFrames.{CommandFrame, command_encoding, IsSendable}
+use Rattle.module_frames.specs.Fragments.{Fragment, IsIncomplete, IsBrokenAt}
 use Rattle.state_model.specs.Kept.{Kept}
 use Rattle.state_model.specs.MachineState.{MachineState}
 use Rattle.state_model.specs.Represents.{Represents}
 use Rattle.state_model.specs.Step.{step}
 use Rattle.module_top.specs.Run.{Ran, run_commands, reply_bytes}
 
--- where a content is told, a part of these bytes came to its end, and not all of them
+-- where a content is known, a part of these bytes came to its end, and not all of them
 abbrev pub GainsPart : Option (List ℕ) → List ℕ → Option (List ℕ) → Type 0
 GainsPart before piece now = (count : ℕ) × (count < length piece) × Gains before (take count piece) now
 
@@ -21,9 +21,9 @@ pub record Desk (V : Type 0) : Type 0 where
   pub gained : Option (List ℕ)
 
 -- From s, with bytes held, a piece leads to t and to other bytes held, and is answered by out.
-pub record Went {V : Type 0} (calls : Calls V) (s : MachineState V) (held piece : List ℕ) (t : MachineState V) (rest out : List ℕ) : Type 0 where
+pub record Went {V : Type 0} (calls : Calls V) (s : MachineState V) (held piece : List ℕ) (t : MachineState V) (remainder out : List ℕ) : Type 0 where
   pub commands : List CommandFrame
-  pub whole : held ++ piece ≡ flat_map command_spelling commands ++ rest
+  pub whole : held ++ piece ≡ flat_map command_encoding commands ++ remainder
   pub sendable : AllByRecursion IsSendable commands
   pub ran : run_commands calls s commands ≡ record { machine = t; out = out }
 
@@ -33,7 +33,7 @@ pub record Broke {V : Type 0} (calls : Calls V) (s : MachineState V) (held piece
   pub commands : List CommandFrame
   pub last : CommandFrame
   pub more : List ℕ
-  pub whole : held ++ piece ≡ flat_map command_spelling commands ++ (command_spelling last ++ more)
+  pub whole : held ++ piece ≡ flat_map command_encoding commands ++ (command_encoding last ++ more)
   pub sendable : AllByRecursion IsSendable commands
   pub last_sendable : IsSendable last
   pub answered : Ran V
@@ -44,9 +44,9 @@ pub record Broke {V : Type 0} (calls : Calls V) (s : MachineState V) (held piece
   pub gained : out ≡ answered.out ++ take count (reply_bytes calls answered.machine last)
 
 -- with bytes held a piece was served, by the machine's definition, and other bytes are held
-pub record Served {V : Type 0} (calls : Calls V) (before : Desk V) (held piece rest : List ℕ) (after : Desk V) : Type 0 where
+pub record Served {V : Type 0} (calls : Calls V) (before : Desk V) (held piece remainder : List ℕ) (after : Desk V) : Type 0 where
   pub each : (s : MachineState V) → Represents before.kept s →
-      (t : MachineState V) × (out : List ℕ) × Represents after.kept t × Gains before.gained out after.gained × Went calls s held piece t rest out
+      (t : MachineState V) × (out : List ℕ) × Represents after.kept t × Gains before.gained out after.gained × Went calls s held piece t remainder out
 
 -- with bytes held a piece was served up to a failed write
 pub record CutShort {V : Type 0} (calls : Calls V) (before : Desk V) (held piece : List ℕ) (after : Desk V) : Type 0 where
@@ -56,14 +56,14 @@ pub record CutShort {V : Type 0} (calls : Calls V) (before : Desk V) (held piece
 -- all of a piece was served, and a frame may go on with the bytes held then
 pub record ServedAll {V : Type 0} (calls : Calls V) (before : Desk V) (old : Fragment) (piece : List ℕ) (new : Fragment) (after : Desk V) : Type 0 where
   pub served : Served calls before old.bytes piece new.bytes after
-  pub partial : IsPartial new.bytes
-  pub sound : new.fault ≡ None
-  pub place : new.offset + length new.bytes ≡ old.offset + length old.bytes + length piece
+  pub incomplete : IsIncomplete new.bytes
+  pub no_fault : new.fault ≡ None
+  pub offset : new.start + length new.bytes ≡ old.start + length old.bytes + length piece
 
--- a piece was served up to a fault, which the rest shows at this place in the stream
-pub record ServedToFault {V : Type 0} (calls : Calls V) (before : Desk V) (old : Fragment) (piece : List ℕ) (place : ℕ) (after : Desk V) : Type 0 where
-  pub rest : List ℕ
+-- a piece was served up to a fault, which the remainder shows at this offset in the stream
+pub record ServedToFault {V : Type 0} (calls : Calls V) (before : Desk V) (old : Fragment) (piece : List ℕ) (offset : ℕ) (after : Desk V) : Type 0 where
+  pub remainder : List ℕ
   pub start : ℕ
-  pub served : Served calls before old.bytes piece rest after
-  pub begins : start + length rest ≡ old.offset + length old.bytes + length piece
-  pub fault : IsBrokenAt start rest place
+  pub served : Served calls before old.bytes piece remainder after
+  pub begins : start + length remainder ≡ old.start + length old.bytes + length piece
+  pub fault : IsBrokenAt start remainder offset

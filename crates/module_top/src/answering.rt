@@ -2,9 +2,9 @@
 ghost use Rattle.std.specs.Prelude.{◌≡◌, ◌≢◌, ◌≤◌, ◌+◌, ◌^◌, ℕ, None, OnOk, OnErr, length};
 ghost use Rattle.outside.specs.Contents.{Gains};
 ghost use Rattle.outside.specs.Faults.{Rose};
-ghost use Rattle.module_frames.specs.Fragments.{IsPartial};
+ghost use Rattle.module_frames.specs.Fragments.{IsIncomplete};
 ghost use Rattle.module_frames.specs.Replies.{frame_of};
-ghost use Rattle.module_frames.specs.ReplyFrames.{reply_spelling};
+ghost use Rattle.module_frames.specs.ReplyFrames.{reply_encoding};
 ghost use Rattle.state_model.specs.MachineState.{MachineState};
 ghost use Rattle.state_model.specs.Represents.{Represents};
 ghost use Rattle.state_model.specs.Step.{step};
@@ -32,8 +32,8 @@ pub fn write_all<K: Sink>(sink: &mut K, piece: &[u8]) -> Result<(), Failed>
 
 /// Writes a reply: its header, and then its payload where there is one.
 pub fn send<K: Sink>(reply: &Reply, replies: &mut K) -> Result<(), Failed>
-    ensures whole { OnOk result (Gains (K.gained replies.old) (reply_spelling (frame_of reply.now)) (K.gained replies.new)) }
-    ensures part { OnErr result (GainsPart (K.gained replies.old) (reply_spelling (frame_of reply.now)) (K.gained replies.new)) }
+    ensures whole { OnOk result (Gains (K.gained replies.old) (reply_encoding (frame_of reply.now)) (K.gained replies.new)) }
+    ensures part { OnErr result (GainsPart (K.gained replies.old) (reply_encoding (frame_of reply.now)) (K.gained replies.new)) }
     ensures rose { OnErr result (Rose (K.faults replies.old) (K.faults replies.new)) }
     ensures steady { OnOk result (K.faults replies.new ≡ K.faults replies.old) }
 {
@@ -69,7 +69,7 @@ pub fn answer<E: Engine, K: Sink>(
 pub enum Served {
     /// All of it was served.
     All,
-    /// The bytes show a fault at this place in the stream; the commands before it were answered.
+    /// The bytes show a fault at this offset in the stream; the commands before it were answered.
     BadFrame(u64),
     /// A write failed.
     WriteFault,
@@ -83,13 +83,13 @@ pub fn serve_piece<E: Engine, K: Sink>(
     reply: &mut Reply,
     piece: &[u8],
 ) -> Served
-    requires sound { frames.old.fault ≡ None }
-    requires partial { IsPartial frames.old.bytes }
-    requires short { frames.old.offset + length frames.old.bytes + length piece.now ≤ 2 ^ 63 }
+    requires no_fault { frames.old.fault ≡ None }
+    requires incomplete { IsIncomplete frames.old.bytes }
+    requires short { frames.old.start + length frames.old.bytes + length piece.now ≤ 2 ^ 63 }
     ensures all { result ≡ Served.All → ServedAll E.calls (record { kept = «module».old; gained = K.gained replies.old })
         frames.old piece.now frames.new (record { kept = «module».new; gained = K.gained replies.new }) }
-    ensures fault { (place : ℕ) → result ≡ Served.BadFrame place → ServedToFault E.calls (record { kept = «module».old; gained = K.gained replies.old })
-        frames.old piece.now place (record { kept = «module».new; gained = K.gained replies.new }) }
+    ensures fault { (offset : ℕ) → result ≡ Served.BadFrame offset → ServedToFault E.calls (record { kept = «module».old; gained = K.gained replies.old })
+        frames.old piece.now offset (record { kept = «module».new; gained = K.gained replies.new }) }
     ensures write_fault { result ≡ Served.WriteFault → CutShort E.calls (record { kept = «module».old; gained = K.gained replies.old })
         frames.old.bytes piece.now (record { kept = «module».new; gained = K.gained replies.new }) }
     ensures rose { result ≡ Served.WriteFault → Rose (K.faults replies.old) (K.faults replies.new) }
@@ -99,7 +99,7 @@ pub fn serve_piece<E: Engine, K: Sink>(
     while done < piece.len() {
         match frames.feed(&piece[done..]) {
             Fed::More => return Served::All,
-            Fed::BadFrame(place) => return Served::BadFrame(place),
+            Fed::BadFrame(offset) => return Served::BadFrame(offset),
             Fed::Whole(count) => {
                 match answer(module, frames.command(), reply, replies) {
                     Err(_) => return Served::WriteFault,

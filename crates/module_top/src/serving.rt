@@ -2,7 +2,7 @@
 ghost use Rattle.std.specs.Prelude.{◌≡◌, ◌≢◌, ◌≤◌, ◌<◌, [], None, IfOk, OnOk, OnErr, length, take, replicate};
 ghost use Rattle.outside.specs.Contents.{Takes, IsSpent};
 ghost use Rattle.outside.specs.Faults.{Rose};
-ghost use Rattle.module_frames.specs.Fragments.{IsPartial, new_fragment};
+ghost use Rattle.module_frames.specs.Fragments.{IsIncomplete, new_fragment};
 ghost use Rattle.module_frames.specs.Replies.{IsCleared};
 ghost use Rattle.state_model.specs.MachineState.{MachineState};
 ghost use Rattle.state_model.specs.Represents.{Represents};
@@ -20,7 +20,7 @@ use state_model::Module;
 pub enum Ended {
     /// The source ended at a frame's boundary, and each command was answered.
     End,
-    /// The bytes show a fault at this place, its offset in the whole stream: that of the wrong byte, or of the first byte
+    /// The bytes show a fault at this offset, its start in the whole stream: that of the wrong byte, or of the first byte
     /// of a length that is too large. The commands before it were answered.
     BadFrame(u64),
     /// The source ended inside a frame. The commands before it were answered.
@@ -78,7 +78,7 @@ fn serve_stream<E: Engine, S: Source, K: Sink>(
             Ok(count) => {
                 match serve_piece(module, replies, frames, reply, &chunk[..count]) {
                     Served::All => {}
-                    Served::BadFrame(place) => return Ended::BadFrame(place),
+                    Served::BadFrame(offset) => return Ended::BadFrame(offset),
                     Served::WriteFault => return Ended::WriteFault,
                 }
                 taken += count as u64;
@@ -90,9 +90,9 @@ fn serve_stream<E: Engine, S: Source, K: Sink>(
 
 // How a stream without a fault ends, with these bytes held.
 fn end_of(frames: &Frames) -> Ended
-    requires sound { frames.now.fault ≡ None }
-    requires partial { IsPartial frames.now.bytes }
-    ensures { result ≡ ending_of frames.now.offset frames.now.bytes }
+    requires no_fault { frames.now.fault ≡ None }
+    requires incomplete { IsIncomplete frames.now.bytes }
+    ensures { result ≡ ending_of frames.now.start frames.now.bytes }
 {
     if frames.at_boundary() {
         Ended::End

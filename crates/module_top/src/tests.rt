@@ -1,4 +1,4 @@
-// The place of a fault, the texts of faults, and replies with a payload. Whole runs are tests of the program's crate.
+// The offset of a fault, the texts of faults, and replies with a payload. Whole runs are tests of the program's crate.
 ghost use Rattle.std.specs.Prelude.{◌≤◌};
 
 use crate::answering::send;
@@ -31,7 +31,7 @@ fn ending(alloc: Global, bytes: &[u8], step: usize) -> Result<Ended, Fail>
     ))
 }
 
-// Streams with a fault, and its place.
+// Streams with a fault, and its offset.
 const FAULTS: [(&[u8], u64); 9] = [
     (&[0xc5, 0x01, 0x04, 0, 0, 0x01, 0, 0x41], 4),
     (&[0xc4], 0),
@@ -58,10 +58,10 @@ const FAULTS: [(&[u8], u64); 9] = [
 
 #[test]
 fn tells_the_place_of_a_fault(rt: HostRuntime) -> Result<(), Fail> {
-    for (bytes, place) in FAULTS {
+    for (bytes, offset) in FAULTS {
         for step in [1, 3, 100] {
             let ended = ending(rt.alloc(), bytes, step)?;
-            assert_eq!(rt; ended, Ended::BadFrame(place));
+            assert_eq!(rt; ended, Ended::BadFrame(offset));
         }
     }
     Ok(())

@@ -1,7 +1,7 @@
 use Rattle.std.proofs.Common.{subst}
 use Rattle.outside.specs.Contents.{Gains}
 use Rattle.module_frames.specs.Replies.{frame_of}
-use Rattle.module_frames.specs.ReplyFrames.{reply_header, reply_spelling}
+use Rattle.module_frames.specs.ReplyFrames.{reply_header, reply_encoding}
 use Rattle.module_top.specs.Desk.{GainsPart}
 use Rattle.module_top.proofs.Cases.{on_err, on_err_then}
 use Rattle.module_top.proofs.Sending.{part_in_front, part_behind}
@@ -13,7 +13,7 @@ returns-in_err-write_all-clause-part g c =
     let reply = frame_of c.args.reply.now in
     let part : GainsPart (g.K.Sink.gained c.args.replies.now) (reply_header reply) (g.K.Sink.gained c.write_all.new.sink) =
     subst (λ xs. GainsPart (g.K.Sink.gained c.args.replies.now) xs (g.K.Sink.gained c.write_all.new.sink)) c.header.ensures c.in_err-write_all.ensures.part in
-    let fact : GainsPart (g.K.Sink.gained c.args.replies.now) (reply_spelling reply) (g.K.Sink.gained c.write_all.new.sink) =
+    let fact : GainsPart (g.K.Sink.gained c.args.replies.now) (reply_encoding reply) (g.K.Sink.gained c.write_all.new.sink) =
     part_in_front _ _ (reply_header reply) reply.payload part in
     on_err _ fact
 

@@ -1,5 +1,5 @@
 use Rattle.std.proofs.Common.{◌≡◌, ◌-◌, ◌+◌, ◌≤◌, None, take, length}
-use Rattle.module_frames.specs.Fragments.{IsPartial}
+use Rattle.module_frames.specs.Fragments.{IsIncomplete}
 use Rattle.module_top.specs.Desk.{Served}
 use Rattle.module_top.proofs.answering.serve_piece.Given as goal
 
@@ -8,9 +8,9 @@ invariant-loop-done g l = record {
   within : l.done ≤ length l.piece;
   served : Served g.E.Engine.calls (record { kept = l.fn.module; gained = g.K.Sink.gained l.fn.replies }) l.fn.frames.bytes (take l.done l.piece)
       l.frames.bytes (record { kept = l.module; gained = g.K.Sink.gained l.replies });
-  partial : IsPartial l.frames.bytes;
-  sound : l.frames.fault ≡ None;
-  place : l.frames.offset + length l.frames.bytes ≡ l.fn.frames.offset + length l.fn.frames.bytes + l.done;
+  incomplete : IsIncomplete l.frames.bytes;
+  no_fault : l.frames.fault ≡ None;
+  offset : l.frames.start + length l.frames.bytes ≡ l.fn.frames.start + length l.fn.frames.bytes + l.done;
   steady : g.K.Sink.faults l.replies ≡ g.K.Sink.faults l.fn.replies;
 }
 

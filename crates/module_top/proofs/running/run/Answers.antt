@@ -9,7 +9,7 @@ not_both : (b : Bool) → b ≡ false → b ≡ true → ⊥
 not_both b h k = cc
 
 pub returns-then-not-is_serve-clause-output : goal.returns-then-not-is_serve-clause-output
-returns-then-not-is_serve-clause-output g c bytes before told gained _ _ _ =
+returns-then-not-is_serve-clause-output g c bytes before known gained _ _ _ =
     let never : map string_bytes c.args.words.now ≢ serve_words = λ is. not_both _ c.if-not-is_serve.true (c.is_serve.ensures.1 is) in (
       [],
       record { usage = λ other. (refl, refl); serve = λ is. absurd (never is); too_long = λ is. absurd (never is) },
@@ -17,9 +17,9 @@ returns-then-not-is_serve-clause-output g c bytes before told gained _ _ _ =
     )
 
 pub returns-in-Ok-clause-output : goal.returns-in-Ok-clause-output
-returns-in-Ok-clause-output g c bytes before told gained =
+returns-in-Ok-clause-output g c bytes before known gained =
     let is = c.is_serve.ensures.0 c.if-not-is_serve.false in
-    let served = rw (told, gained) at c.in-Ok.ensures.served.1 in
+    let served = rw (known, gained) at c.in-Ok.ensures.served.1 in
     rw c.exit_status.ensures
     (λ no_read no_write _. output_of g.E.Engine.calls c.args.engine (map string_bytes c.args.words.now) c.in-Ok.ended c.in-Ok.ensures.served.0 bytes before _ is served no_read no_write)
 

@@ -1,6 +1,6 @@
 use Rattle.std.proofs.Common.{refl, arith}
 use Rattle.module_frames.proofs.Headers.{first_fault-nil}
-use Rattle.module_frames.proofs.Holding.{length-held, nothing_is_partial}
+use Rattle.module_frames.proofs.Holding.{length-held, nothing_is_incomplete}
 use Rattle.module_frames.proofs.frames.Frames.clear.Goals as goal
 
 pub invariant_of-self : goal.invariant_of-self
@@ -8,13 +8,13 @@ invariant_of-self c = record {
   room = refl;
   few = omega arith;
   spare = refl;
-  sound = first_fault-nil;
+  no_fault = first_fault-nil;
   headless = λ h. c.clear.ensures;
   headed = λ h. absurd (omega arith);
   within = λ h. absurd (omega arith);
-  fresh = λ place h. refl;
+  fresh = λ offset h. refl;
   short = rw (c.clear.ensures, c.body.ensures.body) (omega (arith, c.self.invariant.short, length-held c.self.inside c.self.invariant));
 }
 
-pub returns-clause-partial : goal.returns-clause-partial
-returns-clause-partial c = rw c.clear.ensures nothing_is_partial
+pub returns-clause-incomplete : goal.returns-clause-incomplete
+returns-clause-incomplete c = rw c.clear.ensures nothing_is_incomplete

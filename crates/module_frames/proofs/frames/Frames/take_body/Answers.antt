@@ -3,16 +3,16 @@ use Rattle.std.specs.Prelude.{min}
 use Rattle.std.proofs.lemmas.List.{length-take}
 use Rattle.module_frames.specs.Streams.{body_length}
 use Rattle.module_frames.specs.Readers.{held_by}
-use Rattle.module_frames.proofs.Holding.{length-held, is_headed, body_length-held, told_is_sendable}
+use Rattle.module_frames.proofs.Holding.{length-held, is_headed, body_length-held, known_is_sendable}
 use Rattle.module_frames.proofs.frames.Frames.take_body.Goals as goal
 
 pub push-requires : goal.push-requires
 push-requires c =
     let headed = rw (← c.self.view_is) at c.requires.headed in
     let whole = is_headed c.self.inside c.self.invariant headed in
-    let few = told_is_sendable c.self.inside c.self.invariant whole in
+    let few = known_is_sendable c.self.inside c.self.invariant whole in
     let within = c.self.invariant.within whole in
-    omega (arith, length-take c.min-taken.result c.args.piece.now, c.min-taken.ensures, ap length c.body.ensures.body, c.body_length.ensures.told, few, within)
+    omega (arith, length-take c.min-taken.result c.args.piece.now, c.min-taken.ensures, ap length c.body.ensures.body, c.body_length.ensures.known, few, within)
 
 pub returns-clause-taken : goal.returns-clause-taken
 returns-clause-taken c =
@@ -20,5 +20,5 @@ returns-clause-taken c =
     let headed = rw (← c.self.view_is) at c.requires.headed in
     let whole = is_headed r c.self.invariant headed in
     let missing : c.body_length.result - length c.body.result.now ≡ 8 + body_length (held_by r) - length (held_by r) =
-    omega (arith, whole, length-held r c.self.invariant, body_length-held r c.self.invariant whole, c.body_length.ensures.told, ap length c.body.ensures.body) in
+    omega (arith, whole, length-held r c.self.invariant, body_length-held r c.self.invariant whole, c.body_length.ensures.known, ap length c.body.ensures.body) in
     rw (← c.self.view_is) (c.min-taken.ensures ∙ ap (λ n. min n (length c.args.piece.now)) missing)

@@ -1,5 +1,5 @@
-use Rattle.module_frames.proofs.Splitting.{no_prefix, one_way}
-use Rattle.module_frames.proofs.laws.splits_in_one_way.Goals as goal
+use Rattle.module_frames.proofs.Parsing.{no_prefix, one_way}
+use Rattle.module_frames.proofs.laws.parses_in_one_way.Goals as goal
 
 pub returns-clause-no_prefix : goal.returns-clause-no_prefix
 returns-clause-no_prefix c = no_prefix
