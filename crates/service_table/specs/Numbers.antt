@@ -1,4 +1,4 @@
--- The numbers by which frames name states, statuses and services.
+-- The numbers by which frames name states, statuses and services: a table of this project's own.
 use Rattle.std.specs.Prelude.{ℕ, ◌==◌, List, [], ◌∷◌, Option, find}
 use Rattle.service_table.specs.declared.state.State.{State}
 use Rattle.service_table.specs.declared.state.State.TheVariants as state
@@ -29,6 +29,8 @@ status_number status.Ok = 0
 status_number status.UnknownService = 1
 status_number status.NotInState = 2
 status_number status.BadBody = 3
+status_number status.TestFailed = 4
+status_number status.NoiseFault = 5
 status_number status.EmptySlot = 6
 status_number status.WrongKind = 7
 status_number status.WrongDomain = 8
@@ -41,8 +43,8 @@ status_number status.AuthFailed = 14
 
 abbrev pub all_statuses : List Status
 all_statuses =
-    status.Ok ∷ status.UnknownService ∷ status.NotInState ∷ status.BadBody ∷ status.EmptySlot ∷ status.WrongKind ∷ status.WrongDomain ∷ status.Spent
-    ∷ status.OccupiedSlot ∷ status.NotExportable ∷ status.BadLength ∷ status.CheckFailed ∷ status.AuthFailed ∷ []
+    status.Ok ∷ status.UnknownService ∷ status.NotInState ∷ status.BadBody ∷ status.TestFailed ∷ status.NoiseFault ∷ status.EmptySlot
+    ∷ status.WrongKind ∷ status.WrongDomain ∷ status.Spent ∷ status.OccupiedSlot ∷ status.NotExportable ∷ status.BadLength ∷ status.CheckFailed ∷ status.AuthFailed ∷ []
 
 abbrev pub status_numbered : ℕ → Option Status
 status_numbered number = find (λ s. status_number s == number) all_statuses

@@ -1,6 +1,9 @@
--- The table of services: the states in which each is permitted, and the class of its output.
+-- The table of services, which is this project's own (ISO/IEC 19790:2012, 7.4.3, asks for one): the states in which each is permitted,
+-- the class of its output, and which of its uses are approved. It has a row for each service and no default.
 use Rattle.std.specs.Prelude.{ℕ, ◌==◌, nat_le, Bool, true, false, List, [], ◌∷◌}
 use Rattle.std.specs.List.{list_any}
+use Rattle.service_table.specs.declared.approval.Approval.{Approval}
+use Rattle.service_table.specs.declared.approval.Approval.TheVariants as approval
 use Rattle.service_table.specs.declared.class.Class.{Class}
 use Rattle.service_table.specs.declared.class.Class.TheVariants as class
 use Rattle.service_table.specs.declared.service.Service.{Service}
@@ -32,26 +35,64 @@ states_of service.MacVerify = state.User ∷ []
 abbrev pub is_permitted : Service → State → Bool
 is_permitted asked found = list_any (λ s. state_number s == state_number found) (states_of asked)
 
--- the services whose reply may have a payload
+-- what the reply of each service may have: a payload, or nothing
 abbrev pub class_of : Service → Class
+class_of service.PowerOn = class.Nothing
+class_of service.TestStep = class.Nothing
+class_of service.RequestTests = class.Nothing
+class_of service.ShowStatus = class.Nothing
+class_of service.ShowVersion = class.Nothing
+class_of service.SelectRole = class.Nothing
+class_of service.Reset = class.Nothing
+class_of service.EntryBegin = class.Nothing
+class_of service.EntryBytes = class.Nothing
+class_of service.EntryCommit = class.Nothing
+class_of service.EntryAbort = class.Nothing
+class_of service.Zeroise = class.Nothing
+class_of service.ZeroiseAll = class.Nothing
+class_of service.ShowSlot = class.Nothing
 class_of service.Hash = class.Payload
 class_of service.Mac = class.Payload
-class_of other = class.Nothing
+class_of service.MacVerify = class.Nothing
+
+-- which uses of each service are approved
+abbrev pub approval_of : Service → Approval
+approval_of service.PowerOn = approval.NotCryptographic
+approval_of service.TestStep = approval.NotCryptographic
+approval_of service.RequestTests = approval.NotCryptographic
+approval_of service.ShowStatus = approval.NotCryptographic
+approval_of service.ShowVersion = approval.NotCryptographic
+approval_of service.SelectRole = approval.NotCryptographic
+approval_of service.Reset = approval.NotCryptographic
+approval_of service.EntryBegin = approval.NotCryptographic
+approval_of service.EntryBytes = approval.NotCryptographic
+approval_of service.EntryCommit = approval.NotCryptographic
+approval_of service.EntryAbort = approval.NotCryptographic
+approval_of service.Zeroise = approval.NotCryptographic
+approval_of service.ZeroiseAll = approval.NotCryptographic
+approval_of service.ShowSlot = approval.NotCryptographic
+approval_of service.Hash = approval.Always
+approval_of service.Mac = approval.ByMacLength
+approval_of service.MacVerify = approval.ByMacLength
+
+abbrev pub has_cryptography : Approval → Bool
+has_cryptography approval.NotCryptographic = false
+has_cryptography approval.Always = true
+has_cryptography approval.ByMacLength = true
 
 -- the cryptographic services
 abbrev pub is_cryptographic : Service → Bool
-is_cryptographic service.Hash = true
-is_cryptographic service.Mac = true
-is_cryptographic service.MacVerify = true
-is_cryptographic other = false
+is_cryptographic asked = has_cryptography (approval_of asked)
 
--- the least length of a MAC, in bytes, that is an approved use
+-- the least length of a MAC, in bytes, that is an approved use: a rule of this project's own
 abbrev pub mac_least : ℕ
 mac_least = 4
 
--- whether a service, with a MAC of this length where it has one, is an approved use; only cryptographic ones are
+abbrev pub approves : Approval → ℕ → Bool
+approves approval.NotCryptographic mac = false
+approves approval.Always mac = true
+approves approval.ByMacLength mac = nat_le mac_least mac
+
+-- whether a service, with a MAC of this length where it has one, is an approved use
 abbrev pub is_approved : Service → ℕ → Bool
-is_approved service.Hash mac = true
-is_approved service.Mac mac = nat_le mac_least mac
-is_approved service.MacVerify mac = nat_le mac_least mac
-is_approved other mac = false
+is_approved asked mac = approves (approval_of asked) mac

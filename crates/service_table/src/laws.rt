@@ -1,12 +1,30 @@
 // Laws of the table, each computed over all of it, as the contract of a function without a body.
-ghost use Rattle.service_table.specs.Laws.{ServicesKeepTheirNumbers, StatesKeepTheirNumbers, StatusesKeepTheirNumbers, PayloadNeedsARole, ErrorPermitsThree};
+ghost use Rattle.service_table.specs.Laws.{ServicesKeepTheirNumbers, StatesKeepTheirNumbers, StatusesKeepTheirNumbers, PayloadIsOfTheAnswering, PayloadNeedsARole, CryptographicByNumber, CryptographicNeedsARole, CryptographicIsApproved, OtherIsNotApproved, ShortMacIsNotApproved, NoMacNoLength, EachIsPermitted, ParametersAreTheOfficers, EntryGoesOnInEntry, KeysAreTheUsers, StatusIsShown, OffPermits, InitPermits, SelfTestPermits, ApprovedPermits, ErrorPermits};
 
-/// Each service, state and status is found by its number. A service of class data is permitted in a role alone, and in the
-/// state Error none but `ShowStatus`, `ShowVersion` and `Reset`.
+/// What the table is for. Each service, state and status is found by its number. The services that answer with data, and the
+/// cryptographic ones, are permitted in a role alone; an approved use is one of a cryptographic service, and of a MAC of at least
+/// four bytes. Parameters are the officer's to enter and to zeroise, and keys the user's to use. A module that isn't powered, isn't
+/// tested, has no role or is in error permits no more than it says.
 pub fn table_laws()
     ensures services { ServicesKeepTheirNumbers }
     ensures states { StatesKeepTheirNumbers }
     ensures statuses { StatusesKeepTheirNumbers }
+    ensures answering { PayloadIsOfTheAnswering }
     ensures payload { PayloadNeedsARole }
-    ensures error { ErrorPermitsThree }
+    ensures cryptographic { CryptographicByNumber }
+    ensures in_roles { CryptographicNeedsARole }
+    ensures uses { CryptographicIsApproved }
+    ensures other_uses { OtherIsNotApproved }
+    ensures short_macs { ShortMacIsNotApproved }
+    ensures lengths { NoMacNoLength }
+    ensures each { EachIsPermitted }
+    ensures officers { ParametersAreTheOfficers }
+    ensures entry { EntryGoesOnInEntry }
+    ensures users { KeysAreTheUsers }
+    ensures shown { StatusIsShown }
+    ensures off { OffPermits }
+    ensures init { InitPermits }
+    ensures self_test { SelfTestPermits }
+    ensures approved { ApprovedPermits }
+    ensures error { ErrorPermits }
 {}

@@ -10,7 +10,7 @@ mod status;
 #[cfg(test)]
 mod tests;
 
-pub use approval::{approved, is_cryptographic};
+pub use approval::{Approval, approval_of, approved, is_cryptographic};
 pub use class::{Class, class_of};
 pub use laws::table_laws;
 pub use service::{Service, permitted, service_of};

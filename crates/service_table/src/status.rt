@@ -13,6 +13,10 @@ pub enum Status {
     NotInState,
     /// The body isn't of the service's form.
     BadBody,
+    /// A self-test's answer was wrong; the state is Error.
+    TestFailed,
+    /// The noise ended, failed or didn't pass its health tests; the state is Error.
+    NoiseFault,
     /// The slot is empty.
     EmptySlot,
     /// The slot holds a parameter of another kind.
@@ -43,6 +47,8 @@ impl Status {
             Status::UnknownService => 1,
             Status::NotInState => 2,
             Status::BadBody => 3,
+            Status::TestFailed => 4,
+            Status::NoiseFault => 5,
             Status::EmptySlot => 6,
             Status::WrongKind => 7,
             Status::WrongDomain => 8,
@@ -64,6 +70,8 @@ impl Status {
             1 => Some(Status::UnknownService),
             2 => Some(Status::NotInState),
             3 => Some(Status::BadBody),
+            4 => Some(Status::TestFailed),
+            5 => Some(Status::NoiseFault),
             6 => Some(Status::EmptySlot),
             7 => Some(Status::WrongKind),
             8 => Some(Status::WrongDomain),

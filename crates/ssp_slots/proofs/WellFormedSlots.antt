@@ -1,5 +1,5 @@
 -- What keeps slots well formed.
-use Rattle.std.proofs.Common.{◌≡◌, ℕ, ◌-◌, ◌<◌, ◌≤◌, Option, Some, None, List, length, get_or, set, replicate, IsTrue, MatchOption, refl, sym, ap, subst, ◌∙◌, arith, inl, inr}
+use Rattle.std.proofs.Common.{◌≡◌, ◌≢◌, ℕ, ◌-◌, ◌<◌, ◌≤◌, ◌^◌, Option, Some, None, List, length, get_or, set, replicate, IsTrue, MatchOption, refl, sym, ap, subst, ◌∙◌, arith, inl, inr}
 use Rattle.std.proofs.lemmas.Bool.{cases_eq, cases_lt}
 use Rattle.std.proofs.lemmas.List.{ext_get_or, length-replicate, length-set, get_or-set_same, get_or-set_other, get_or-replicate, get_or_append_left, length-take-le}
 use Rattle.std.proofs.Math.Seq.{drop-append_seam, get_or-append_right}
@@ -12,7 +12,7 @@ use Rattle.bits_core.specs.Parameters.{length_fits}
 use Rattle.bits_core.specs.ByteList.{IsBytes, zeros, zero_padded}
 use Rattle.bits_core.proofs.ZeroPadding.{get_or-zeros, length-zero_padded}
 use Rattle.ssp_slots.specs.declared.slot.Slot.{Slot}
-use Rattle.ssp_slots.specs.Slots.{Contents, empty_slot, filled_slot, spent_slot, slot_in, parameter, HoldsParameter, IsWellFormed, AreWellFormed}
+use Rattle.ssp_slots.specs.Slots.{Contents, empty_slot, empty_vault, filled_slot, spent_slot, slot_in, with_slot, filled_in, spent_in, zeroised_in, parameter, HoldsParameter, IsWellFormed, AreWellFormed}
 
 -- no parameter is longer than 64 bytes
 pub length_fits-le : (kind : Kind) (domain : Domain) (n : ℕ) → IsTrue (length_fits kind domain n) → n ≤ 64
@@ -36,10 +36,11 @@ IsBytes-zero_padded n bytes are_bytes k =
     ]
 
 -- a slot that was filled with a parameter that fits
-pub IsWellFormed-filled : (header : Header) (bytes : List ℕ) → IsTrue (length_fits header.kind header.domain (length bytes))
+pub IsWellFormed-filled : (header : Header) (bytes : List ℕ) → IsTrue (length_fits header.kind header.domain (length bytes)) → header.uses < 2 ^ 32
     → IsBytes bytes → IsWellFormed (filled_slot header bytes)
-IsWellFormed-filled header bytes fits are_bytes = record {
+IsWellFormed-filled header bytes fits uses are_bytes = record {
   fits = fits;
+  uses = uses;
   room = length-zero_padded 64 bytes (length_fits-le header.kind header.domain (length bytes) fits);
   byte_values = IsBytes-zero_padded 64 bytes are_bytes;
   rest = drop-append_seam bytes (zeros (64 - length bytes));
@@ -50,6 +51,7 @@ spent_parts : (header : Option Header) (n : ℕ) (bytes : List ℕ)
 spent_parts None n bytes empty = empty
 spent_parts (Some header) n bytes holds = record {
   fits = holds.fits;
+  uses = let before : header.uses < 2 ^ 32 = holds.uses in omega arith;
   room = holds.room;
   byte_values = holds.byte_values;
   rest = holds.rest;
@@ -59,25 +61,59 @@ spent_parts (Some header) n bytes holds = record {
 pub IsWellFormed-spent : (slot : Slot) → IsWellFormed slot → IsWellFormed (spent_slot slot)
 IsWellFormed-spent slot well = spent_parts slot.header slot.length slot.bytes well
 
+-- what was laid at a number stands there
+pub slot_in-with_slot_same : (vault : Contents) (id : ℕ) (slot : Slot) → id < length vault.slots → slot_in (with_slot vault id slot) id ≡ slot
+slot_in-with_slot_same vault id slot within = get_or-set_same vault.slots id slot empty_slot within
+
+-- and no other slot has changed
+pub slot_in-with_slot_other : (vault : Contents) (id other : ℕ) (slot : Slot) → other ≢ id → slot_in (with_slot vault id slot) other ≡ slot_in vault other
+slot_in-with_slot_other vault id other slot apart = get_or-set_other vault.slots id other slot empty_slot apart
+
+-- laying back what stands at a number changes nothing
+pub laid_back : (vault : Contents) (id : ℕ) → id < length vault.slots → with_slot vault id (slot_in vault id) ≡ vault
+laid_back vault id within =
+    ap (λ (s : List Slot). record vault { slots = s })
+    (ext_get_or empty_slot (set vault.slots id (slot_in vault id)) vault.slots (length-set vault.slots id (slot_in vault id)) (λ k below.
+    elim (cases_eq k id) [
+      | inl same ↦
+          ap (slot_in (with_slot vault id (slot_in vault id))) same ∙ slot_in-with_slot_same vault id (slot_in vault id) within
+          ∙ sym (ap (slot_in vault) same)
+      | inr other ↦ slot_in-with_slot_other vault id k (slot_in vault id) other
+    ]))
+
 -- one slot among sixteen was written
-pub AreWellFormed-set : (slots : List Slot) (id : ℕ) (slot : Slot) → AreWellFormed slots → IsWellFormed slot
-    → AreWellFormed (set slots id slot)
-AreWellFormed-set slots id slot before well =
+pub AreWellFormed-with_slot : (vault : Contents) (id : ℕ) (slot : Slot) → AreWellFormed vault → IsWellFormed slot → AreWellFormed (with_slot vault id slot)
+AreWellFormed-with_slot vault id slot before well =
     let Well : Slot → Type 0 = λ s. IsWellFormed s in
-    let long : length slots ≡ 16 = before.sixteen in
+    let long : length vault.slots ≡ 16 = before.sixteen in
     record {
-      sixteen = length-set slots id slot ∙ long;
+      sixteen = length-set vault.slots id slot ∙ long;
       each = λ k below. elim (cases_eq k id) [
         | inl same ↦
-            let here : get_or (set slots id slot) k empty_slot ≡ slot =
-            ap (λ (j : ℕ). get_or (set slots id slot) j empty_slot) same ∙ get_or-set_same slots id slot empty_slot (omega arith) in
+            let here : slot_in (with_slot vault id slot) k ≡ slot =
+            ap (slot_in (with_slot vault id slot)) same ∙ slot_in-with_slot_same vault id slot (omega arith) in
             subst Well (sym here) well
-        | inr other ↦ subst Well (sym (get_or-set_other slots id k slot empty_slot other)) (before.each k below)
+        | inr other ↦ subst Well (sym (slot_in-with_slot_other vault id k slot other)) (before.each k below)
       ];
     }
 
+-- one use of a slot was spent
+pub AreWellFormed-spent : (vault : Contents) (id : ℕ) → AreWellFormed vault → id < 16 → AreWellFormed (spent_in vault id)
+AreWellFormed-spent vault id before below =
+    AreWellFormed-with_slot vault id (spent_slot (slot_in vault id)) before (IsWellFormed-spent (slot_in vault id) (before.each id below))
+
+-- a slot was filled with a parameter that fits
+pub AreWellFormed-filled : (vault : Contents) (id : ℕ) (header : Header) (bytes : List ℕ) → AreWellFormed vault
+    → IsTrue (length_fits header.kind header.domain (length bytes)) → header.uses < 2 ^ 32 → IsBytes bytes → AreWellFormed (filled_in vault id header bytes)
+AreWellFormed-filled vault id header bytes before fits uses are_bytes =
+    AreWellFormed-with_slot vault id (filled_slot header bytes) before (IsWellFormed-filled header bytes fits uses are_bytes)
+
+-- a slot was zeroised
+pub AreWellFormed-zeroised : (vault : Contents) (id : ℕ) → AreWellFormed vault → AreWellFormed (zeroised_in vault id)
+AreWellFormed-zeroised vault id before = AreWellFormed-with_slot vault _ empty_slot before refl
+
 -- sixteen empty slots
-pub AreWellFormed-empty : AreWellFormed (replicate 16 empty_slot)
+pub AreWellFormed-empty : AreWellFormed empty_vault
 AreWellFormed-empty =
     let Well : Slot → Type 0 = λ s. IsWellFormed s in
     record {
@@ -85,8 +121,12 @@ AreWellFormed-empty =
       each = λ k below. subst Well (sym (get_or-replicate 16 k empty_slot empty_slot below)) refl;
     }
 
+-- each of sixteen empty slots is empty
+pub slot_in-empty : (id : ℕ) → id < 16 → slot_in empty_vault id ≡ empty_slot
+slot_in-empty id below = get_or-replicate 16 id empty_slot empty_slot below
+
 -- a slot with a header, among sixteen that are well formed, holds its parameter
-pub HoldsParameter-at : (vault : Contents) (id : ℕ) (header : Header) → AreWellFormed vault.slots → id < 16
+pub HoldsParameter-at : (vault : Contents) (id : ℕ) (header : Header) → AreWellFormed vault → id < 16
     → (slot_in vault id).header ≡ Some header → HoldsParameter header (slot_in vault id)
 HoldsParameter-at vault id header are below is =
     let slot : Slot = slot_in vault id in

@@ -9,9 +9,9 @@ use Rattle.ssp_slots.specs.declared.slot_fault.SlotFault.{SlotFault}
 use Rattle.ssp_slots.specs.declared.slot_fault.SlotFault.TheVariants.{EmptySlot, WrongKind, WrongDomain, Spent, OccupiedSlot, NotExportable}
 
 -- the first fault whose test is true
-abbrev pub first_fault : List (Bool × SlotFault) → Option SlotFault
-first_fault [] = None
-first_fault ((applies, fault) ∷ later) = if applies then Some fault else first_fault later
+abbrev pub first_refusal : List (Bool × SlotFault) → Option SlotFault
+first_refusal [] = None
+first_refusal ((applies, fault) ∷ later) = if applies then Some fault else first_refusal later
 
 abbrev pub is_kind : Kind → Kind → Bool
 is_kind a b = kind_number a == kind_number b
@@ -21,14 +21,14 @@ is_domain a b = domain_number a == domain_number b
 
 -- a slot that is to be filled: it is full
 abbrev pub vacancy_fault : Option Header → Option SlotFault
-vacancy_fault header = first_fault ((is_some header, OccupiedSlot) ∷ [])
+vacancy_fault header = first_refusal ((is_some header, OccupiedSlot) ∷ [])
 
 -- a slot that is to be used for a kind of service: it is empty; it is of another kind; it is approved
 -- and the service isn't; it has no use left
 abbrev pub source_fault : Option Header → Kind → Bool → Option SlotFault
 source_fault None kind approved = Some EmptySlot
 source_fault (Some header) kind approved =
-    first_fault (
+    first_refusal (
     (not (is_kind header.kind kind), WrongKind)
     ∷ (is_domain header.domain Approved && not approved, WrongDomain)
     ∷ (header.uses == 0, Spent)
@@ -40,7 +40,7 @@ source_fault (Some header) kind approved =
 abbrev pub export_fault : Option Header → Domain → Option SlotFault
 export_fault None domain = Some EmptySlot
 export_fault (Some header) domain =
-    first_fault ((not header.export, NotExportable) ∷ (not (is_domain header.domain domain), WrongDomain) ∷ [])
+    first_refusal ((not header.export, NotExportable) ∷ (not (is_domain header.domain domain), WrongDomain) ∷ [])
 
 -- the answer is Ok where there is no fault, and else the fault
 abbrev pub Answers : Result ⊤ SlotFault → Option SlotFault → Type 0

@@ -1,5 +1,5 @@
 -- A slot of the vault, what it holds, and when it is well formed (ISO/IEC 19790:2012, 7.9).
-use Rattle.std.specs.Prelude.{◌≡◌, ℕ, ◌-◌, ◌<◌, Some, None, List, length, take, drop, IsTrue, is_some, MatchOption, replicate, slice_index_or, slice_set}
+use Rattle.std.specs.Prelude.{◌≡◌, ◌≢◌, ℕ, ◌-◌, ◌^◌, ◌<◌, Some, None, List, length, take, drop, IsTrue, is_some, MatchOption, replicate, slice_index_or, slice_set}
 use Rattle.std.specs.Option.{option_map}
 use Rattle.bits_core.specs.declared.parameter.Header.{Header}
 use Rattle.bits_core.specs.Parameters.{length_fits}
@@ -15,9 +15,10 @@ empty_slot = record { header = None; length = 0; bytes = zeros 64 }
 abbrev pub filled_slot : Header → List ℕ → Slot
 filled_slot header bytes = record { header = Some header; length = length bytes; bytes = zero_padded 64 bytes }
 
--- the slot holds a parameter: its length fits its header, and the bytes past it are zero
+-- the slot holds a parameter: its length fits its header, its uses are a number of 32 bits, and the bytes past it are zero
 pub record HoldsParameter (header : Header) (slot : Slot) : Type 0 where
   pub fits : IsTrue (length_fits header.kind header.domain slot.length)
+  pub uses : header.uses < 2 ^ 32
   pub room : length slot.bytes ≡ 64
   pub byte_values : IsBytes slot.bytes
   pub rest : drop slot.length slot.bytes ≡ zeros (64 - slot.length)
@@ -54,11 +55,31 @@ slot_in vault id = slice_index_or vault.slots id empty_slot
 abbrev pub with_slot : Contents → ℕ → Slot → Contents
 with_slot vault id slot = record vault { slots = slice_set vault.slots id slot }
 
+-- the vault after a slot was filled with a parameter
+abbrev pub filled_in : Contents → ℕ → Header → List ℕ → Contents
+filled_in vault id header bytes = with_slot vault id (filled_slot header bytes)
+
+-- the vault after one use of a slot was spent
+abbrev pub spent_in : Contents → ℕ → Contents
+spent_in vault id = with_slot vault id (spent_slot (slot_in vault id))
+
+-- the vault after a slot was zeroised (ISO/IEC 19790:2012, 7.9.7)
+abbrev pub zeroised_in : Contents → ℕ → Contents
+zeroised_in vault id = with_slot vault id empty_slot
+
 -- sixteen empty slots
 abbrev pub empty_vault : Contents
 empty_vault = record { slots = replicate 16 empty_slot }
 
+-- the vault after all slots were zeroised
+abbrev pub zeroised_all : Contents
+zeroised_all = empty_vault
+
 -- there are sixteen slots, and each is well formed
-pub record AreWellFormed (slots : List Slot) : Type 0 where
-  pub sixteen : length slots ≡ 16
-  pub each : (id : ℕ) → id < 16 → IsWellFormed (slice_index_or slots id empty_slot)
+pub record AreWellFormed (vault : Contents) : Type 0 where
+  pub sixteen : length vault.slots ≡ 16
+  pub each : (id : ℕ) → id < 16 → IsWellFormed (slot_in vault id)
+
+-- no slot but the one with this number has changed
+abbrev pub OthersStay : Contents → Contents → ℕ → Type 0
+OthersStay before after id = (other : ℕ) → other ≢ id → slot_in after other ≡ slot_in before other

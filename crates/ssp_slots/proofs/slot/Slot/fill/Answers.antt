@@ -13,4 +13,4 @@ pub returns-clause-well_formed : goal.returns-clause-well_formed
 returns-clause-well_formed c =
     let bytes : IsBytes c.args.bytes.now = λ n. omega (arith, c.type_inv.bytes n) in
     let Well : Slot → Type 0 = λ slot. IsWellFormed slot in
-    subst Well (sym (returns-clause-filled c)) (IsWellFormed-filled c.args.header.now c.args.bytes.now c.requires bytes)
+    subst Well (sym (returns-clause-filled c)) (IsWellFormed-filled c.args.header.now c.args.bytes.now c.requires (omega arith) bytes)

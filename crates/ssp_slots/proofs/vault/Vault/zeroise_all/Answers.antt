@@ -18,7 +18,7 @@ returns-clause-zeroised c =
     let old = c.self.inside.slots.items in
     let d = c.deref_mut-slot-items.ensures in
     let long : length c.loop-slot.slot-items ≡ length old = c.loop-slot.auto.slot-items ∙ ap length d.value in
-    let sixteen : length c.loop-slot.slot-items ≡ 16 = long ∙ c.self.invariant.sixteen in
+    let sixteen : length c.loop-slot.slot-items ≡ 16 = long ∙ c.self.invariant.0.sixteen in
     let written = whole c.self.inside.slots.len c.loop-slot.slot-items old (omega (arith, ap length d.value, d.len)) long in
     let each : (k : ℕ) → k < 16 → get_or c.loop-slot.slot-items k empty_slot ≡ empty_slot = λ k below. c.loop-slot.invariant k (omega arith) in
     ap seen (written ∙ all_same 16 c.loop-slot.slot-items empty_slot sixteen each)
