@@ -1,7 +1,7 @@
 // The leftmost bytes of an engine's output.
 ghost use Rattle.std.specs.Prelude.{◌≡◌, ◌≤◌, ◌+◌, ◌++◌, length, take};
 ghost use Rattle.bits_core.specs.OutboxContents.{holding};
-ghost use Rattle.crypto_services.specs.Core.{is_leftmost};
+ghost use Rattle.crypto_services.specs.Services.{is_leftmost};
 
 use bits_core::{Enabled, Port, same};
 

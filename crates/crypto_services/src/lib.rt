@@ -9,9 +9,11 @@ mod parts;
 mod tags;
 #[cfg(test)]
 mod tests;
+mod work;
 
 pub use digests::hash;
 pub use macs::mac;
-pub use outcome::Outcome;
+pub use outcome::{Outcome, status_of};
 pub use parts::Parts;
 pub use tags::mac_verify;
+pub use work::Work;

@@ -1,9 +1,12 @@
 // What a service answers beside its payload.
-ghost use Rattle.std.specs.Prelude.{◌≡◌, false};
-ghost use Rattle.crypto_services.specs.Core.{fault_status};
+ghost use Rattle.std.specs.Prelude.{◌≡◌, ◌&&◌, false};
+ghost use Rattle.std.specs.List.{list_all};
+ghost use Rattle.crypto_services.specs.AtSlots.{fault_status, slot_at};
+ghost use Rattle.crypto_services.specs.Indicator.{ServiceUse, is_ok, is_in_approved, indicator};
 
-use service_table::Status;
-use ssp_slots::SlotFault;
+use bits_core::{Domain, SlotId};
+use service_table::{Service, Status, approved};
+use ssp_slots::{SlotFault, Vault};
 
 /// What a service answers beside its payload.
 #[derive(Clone, Copy, Debug, PartialEq, Eq)]
@@ -11,12 +14,12 @@ pub struct Outcome {
     pub status: Status,
     /// What failed, where something did; 0 else.
     pub code: u16,
-    /// Whether this was an approved use (ISO/IEC 19790:2012, 7.2.4.2).
+    /// The indicator of approved services (ISO/IEC 19790:2012, 7.2.4.2).
     pub approved: bool,
 }
 
 /// The status of a command that a slot refused.
-pub(crate) fn status_of(fault: SlotFault) -> Status
+pub fn status_of(fault: SlotFault) -> Status
     ensures { result ≡ fault_status fault }
 {
     match fault {
@@ -29,13 +32,41 @@ pub(crate) fn status_of(fault: SlotFault) -> Status
     }
 }
 
-/// What a service answers that a slot refused.
-pub(crate) fn refusal(fault: SlotFault) -> Outcome
-    ensures { result ≡ record { status = fault_status fault; code = 0; approved = false } }
+// Whether a slot holds a parameter of the approved domain.
+fn is_in_approved(vault: &Vault, slot: SlotId) -> bool
+    ensures { result ≡ is_in_approved (slot_at vault.now.slots slot) }
 {
+    match vault.show(slot).header {
+        Some(header) => header.domain == Domain::Approved,
+        None => false,
+    }
+}
+
+// Whether all these slots hold a parameter of the approved domain.
+fn are_in_approved(vault: &Vault, named: &[SlotId]) -> bool
+    ensures { result ≡ list_all (λ id. is_in_approved (slot_at vault.now.slots id)) named.now }
+{
+    named.iter().all(|slot| is_in_approved(vault, *slot))
+}
+
+/// The outcome of a service that nothing failed in, with the indicator: by the service, the MAC's length where it has one, the slots
+/// that the command names, and the vault after it.
+pub(crate) fn with_indicator(
+    service: Service,
+    mac_length: usize,
+    named: &[SlotId],
+    status: Status,
+    vault: &Vault,
+) -> Outcome
+    ensures { let indicated = indicator (record { service = service; mac_length = mac_length; named = named.now }) status vault.now.slots in
+        result ≡ record { status = status; code = 0; approved = indicated } }
+{
+    let approved = status == Status::Ok
+        && approved(service, mac_length)
+        && are_in_approved(vault, named);
     Outcome {
-        status: status_of(fault),
+        status,
         code: 0,
-        approved: false,
+        approved,
     }
 }

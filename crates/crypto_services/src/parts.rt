@@ -1,26 +1,38 @@
 // What the services work on.
-ghost use Rattle.std.specs.Prelude.{◌≡◌, IfOk};
+ghost use Rattle.std.specs.Prelude.{◌≡◌, [], IfOk};
+ghost use Rattle.noise_health.specs.Counts.{Counts};
 ghost use Rattle.ssp_slots.specs.Slots.{empty_vault, AreWellFormed};
 
+use crate::Work;
 use engine_core::Engine;
+use noise_health::Health;
 use ssp_slots::Vault;
 use std::alloc::{AllocError, Global};
 
-/// What the services work on: an engine, and the slots with its keys.
+/// What the services work on: an engine, the slots with its keys, the tests of the noise, and bytes to work in.
 #[derive(Drop)]
 pub struct Parts<E: Engine> {
     pub engine: E,
     pub vault: Vault,
+    pub health: Health,
+    pub work: Work,
 }
 
 impl<E: Engine> Parts<E> {
-    /// An engine beside sixteen empty slots.
+    /// An engine beside sixteen empty slots, with no sample of noise tested yet.
     pub fn new(alloc: Global, engine: E) -> Result<Parts<E>, AllocError>
         ensures engine { IfOk result (λ parts. parts.engine ≡ engine) }
         ensures empty { IfOk result (λ parts. parts.vault ≡ empty_vault) }
-        ensures well_formed { IfOk result (λ parts. AreWellFormed parts.vault.slots) }
+        ensures no_sample { IfOk result (λ parts. Counts parts.health []) }
+        ensures well_formed { IfOk result (λ parts. AreWellFormed parts.vault) }
     {
         let vault = Vault::new(alloc)?;
-        Ok(Parts { engine, vault })
+        let work = Work::new(alloc)?;
+        Ok(Parts {
+            engine,
+            vault,
+            health: Health::new(),
+            work,
+        })
     }
 }

@@ -1,13 +1,14 @@
 // Checks of MACs under the keys of the vault.
-ghost use Rattle.std.specs.Prelude.{◌≡◌, ◌≤◌, ◌&&◌, [], length, if◌then◌else◌};
+ghost use Rattle.std.specs.Prelude.{◌≡◌, ◌≤◌, ◌∷◌, [], length, if◌then◌else◌};
 ghost use Rattle.bits_core.specs.Algorithms.{alg_size};
 ghost use Rattle.ssp_slots.specs.Slots.{AreWellFormed};
-ghost use Rattle.crypto_services.specs.Core.{mac_verify_served};
-ghost use Rattle.crypto_services.specs.Serves.{core_of, Serves};
+ghost use Rattle.service_table.specs.declared.service.Service.TheVariants as service;
+ghost use Rattle.crypto_services.specs.AtSlots.{on_slot};
+ghost use Rattle.crypto_services.specs.Services.{mac_verify_at};
+ghost use Rattle.crypto_services.specs.Serves.{Serves};
 
 use crate::leftmost::has_leftmost;
-use crate::macs::is_in_approved;
-use crate::outcome::refusal;
+use crate::outcome::{status_of, with_indicator};
 use crate::{Outcome, Parts};
 use bits_core::{Alg, Inhibited, Kind, Port, SlotId, wipe};
 use engine_core::Engine;
@@ -26,35 +27,32 @@ pub fn mac_verify<E: Engine>(
     requires least { 1 ≤ length tag.now }
     requires most { length tag.now ≤ alg_size alg }
     requires empty { port.old.outbox.now.bytes ≡ [] }
-    ensures serves { Serves (mac_verify_served E.calls (core_of parts.old) slot alg tag.now text.now) parts.new result port.new.outbox.now.bytes }
+    ensures serves { Serves (record { service = service.MacVerify; mac_length = length tag.now; named = slot ∷ [] })
+        (on_slot parts.old.vault.slots slot (mac_verify_at E.calls parts.old.engine alg tag.now text.now)) parts.old parts.new result port.new.outbox.now.bytes }
     ensures same { port.new.outbox.ghost_name ≡ port.old.outbox.ghost_name }
     ensures room { port.new.outbox.now.room ≡ port.old.outbox.now.room }
-    ensures well_formed { AreWellFormed parts.new.vault.slots }
+    ensures well_formed { AreWellFormed parts.new.vault }
 {
     let is_approved = approved(Service::MacVerify, tag.len());
-    let in_approved = is_in_approved(&parts.vault, slot);
     if let Err(fault) = parts.vault.source(slot, Kind::Mac, is_approved) {
-        return refusal(fault);
+        let why = status_of(fault);
+        return with_indicator(Service::MacVerify, tag.len(), &[slot], why, &parts.vault);
     }
     let mut out = [0; 64];
     let key = parts.vault.bytes(slot);
     parts.engine.mac(alg, key, text, &mut out);
-    let right = has_leftmost(&out, tag);
+    let status = verified(has_leftmost(&out, tag));
     wipe(&mut out);
-    verified(right, is_approved && in_approved)
+    with_indicator(Service::MacVerify, tag.len(), &[slot], status, &parts.vault)
 }
 
-// What a check of a tag answers, where it is so used.
-fn verified(right: bool, approved: bool) -> Outcome
-    ensures { result ≡ record { status = if right then Status.Ok else Status.AuthFailed; code = 0; approved = right && approved } }
+// The status of a check of a tag.
+fn verified(right: bool) -> Status
+    ensures { result ≡ (if right then Status.Ok else Status.AuthFailed) }
 {
-    Outcome {
-        status: if right {
-            Status::Ok
-        } else {
-            Status::AuthFailed
-        },
-        code: 0,
-        approved: right && approved,
+    if right {
+        Status::Ok
+    } else {
+        Status::AuthFailed
     }
 }
