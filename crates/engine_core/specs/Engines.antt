@@ -26,7 +26,7 @@ counted call v = if v.call == call then record v { left = v.left - 1 } else v
 
 -- what is answered where this is right
 abbrev pub answered : ℕ → Faulty → List ℕ → List ℕ
-answered call v right = if fails call v then turned v.mask right else right
+answered call v right = if fails call v then turned v.bit right else right
 
 abbrev pub faulty_calls : Calls Faulty
 faulty_calls = record {

@@ -1,7 +1,7 @@
 -- A fault in an output.
-use Rattle.std.specs.Prelude.{ℕ, List, [], ◌∷◌, bit_xor}
+use Rattle.std.specs.Prelude.{ℕ, ◌%◌, ◌^◌, List, [], ◌∷◌, bit_xor}
 
--- the output with bits of its first byte turned; an empty one stays empty
+-- the output with a bit of its first byte turned, 0 the lowest and 7 the highest; an empty one stays empty
 abbrev pub turned : ℕ → List ℕ → List ℕ
-turned mask [] = []
-turned mask (first ∷ rest) = bit_xor first mask ∷ rest
+turned bit [] = []
+turned bit (first ∷ rest) = bit_xor first (2 ^ (bit % 8)) ∷ rest

@@ -1,7 +1,7 @@
 // What an engine owes its callers.
 ghost use Rattle.std.specs.Prelude.{◌≡◌};
 ghost use Rattle.bits_core.specs.ByteList.{zeros};
-ghost use Rattle.engine_core.specs.Calls.{Calls};
+ghost use Rattle.engine_core.specs.Calls.{Calls, Keeps};
 
 use bits_core::Alg;
 
@@ -21,4 +21,7 @@ pub trait Engine: Drop {
         requires { out.old ≡ zeros 64 }
         ensures out { out.new ≡ calls.mac self.old alg key.now text.now }
         ensures engine { self.new ≡ calls.mac_after self.old alg key.now text.now };
+
+    // A law of the answers, which each engine proves.
+    ghost keeps: { Keeps calls };
 }

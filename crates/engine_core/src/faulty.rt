@@ -1,5 +1,5 @@
 // An engine that fails on purpose, to test what the module makes of one.
-ghost use Rattle.std.specs.Prelude.{◌≡◌, ◌≤◌, ◌^◌};
+ghost use Rattle.std.specs.Prelude.{◌≡◌, ◌≤◌};
 ghost use Rattle.engine_core.specs.Faults.{turned};
 
 use crate::Engine;
@@ -13,15 +13,15 @@ pub struct Faulty {
     pub call: u8,
     /// How many times it will still be right.
     pub left: u32,
-    /// The bit that is turned.
-    pub mask: u8,
+    /// The bit that is turned, 0 the lowest and 7 the highest.
+    pub bit: u8,
 }
 
-fn turn(out: &mut [u8], mask: u8)
-    ensures { out.new ≡ turned mask out.old }
+fn turn(out: &mut [u8], bit: u8)
+    ensures { out.new ≡ turned bit out.old }
 {
     if let Some(first) = out.first_mut() {
-        *first ^= mask;
+        *first ^= 1 << (bit % 8);
     }
 }
 
@@ -33,12 +33,12 @@ impl Faulty {
     pub fn new(call: u8, after: u32, bit: u8) -> Faulty
         requires call { call ≤ 9 }
         requires bit { bit ≤ 7 }
-        ensures { result ≡ record { call = call; left = after; mask = 2 ^ bit } }
+        ensures { result ≡ record { call = call; left = after; bit = bit } }
     {
         Faulty {
             call,
             left: after,
-            mask: 1 << bit,
+            bit,
         }
     }
 
@@ -60,20 +60,23 @@ impl Faulty {
 
 impl Engine for Faulty {
     ghost use Rattle.engine_core.specs.Engines.{faulty_calls};
+    ghost use Rattle.engine_core.specs.Keeping.{faulty_keeps};
 
     ghost calls = { faulty_calls };
+
+    ghost keeps = { faulty_keeps };
 
     fn hash(&mut self, alg: Alg, text: &[u8], out: &mut [u8; 64]) {
         hmac_core::hash(alg, text, out);
         if self.count(0) {
-            turn(out, self.mask);
+            turn(out, self.bit);
         }
     }
 
     fn mac(&mut self, alg: Alg, key: &[u8], text: &[u8], out: &mut [u8; 64]) {
         hmac_core::hmac(alg, key, text, out);
         if self.count(1) {
-            turn(out, self.mask);
+            turn(out, self.bit);
         }
     }
 }

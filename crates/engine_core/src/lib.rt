@@ -10,5 +10,5 @@ mod tests;
 
 pub use engine::Engine;
 pub use faulty::Faulty;
-pub use laws::shipped_is_standard;
+pub use laws::{faulty_is_as_told, shipped_is_standard};
 pub use shipped::Shipped;

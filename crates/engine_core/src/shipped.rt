@@ -17,8 +17,11 @@ impl Shipped {
 
 impl Engine for Shipped {
     ghost use Rattle.engine_core.specs.Engines.{shipped_calls};
+    ghost use Rattle.engine_core.specs.Keeping.{shipped_keeps};
 
     ghost calls = { shipped_calls };
+
+    ghost keeps = { shipped_keeps };
 
     fn hash(&mut self, alg: Alg, text: &[u8], out: &mut [u8; 64]) {
         hmac_core::hash(alg, text, out);

@@ -31,6 +31,11 @@ size_ge Sha256 = lit≤ tt
 size_ge Sha384 = lit≤ tt
 size_ge Sha512 = lit≤ tt
 
+pub size_le : (alg : Alg) → alg_size alg ≤ 64
+size_le Sha256 = lit≤ tt
+size_le Sha384 = lit≤ tt
+size_le Sha512 = lit≤ tt
+
 pub block_le : (alg : Alg) → alg_block alg ≤ 128
 block_le Sha256 = lit≤ tt
 block_le Sha384 = lit≤ tt
