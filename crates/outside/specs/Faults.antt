@@ -5,5 +5,5 @@ abbrev pub one_more : ℕ → ℕ
 one_more count = min (count + 1) (2 ^ 64 - 1)
 
 -- the count rose, or stands still at its end
-abbrev pub Rose : ℕ → ℕ → Type 0
-Rose before now = one_more before ≤ now
+abbrev pub FaultCounted : ℕ → ℕ → Type 0
+FaultCounted before now = one_more before ≤ now

@@ -1,4 +1,5 @@
 pub mod Adapters
 pub mod Contents
+pub mod Events
 pub mod Faults
 pub mod Memory

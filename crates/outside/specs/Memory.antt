@@ -1,5 +1,8 @@
 use Rattle.std.specs.Prelude.{◌+◌, ◌-◌, ◌^◌, ◌==◌, min, ℕ, Bool, List, length}
 use Rattle.std.specs.List.{list_any}
+use Rattle.outside.specs.declared.traits.Sample.{Sample}
+use Rattle.outside.specs.declared.traits.Sample.TheVariants as sample
+use Rattle.outside.specs.Faults.{one_more}
 
 -- the number of a call is in this list
 abbrev pub is_listed : List ℕ → ℕ → Bool
@@ -10,7 +13,7 @@ abbrev pub calls_after : ℕ → ℕ
 calls_after calls = min (calls + 1) (2 ^ 64)
 
 -- which calls of an object fail, how many were made, and how many failed
-pub record Schedule : Type 0 where
+pub record FailurePlan : Type 0 where
   pub fail : List ℕ
   pub calls : ℕ
   pub faults : ℕ
@@ -19,7 +22,7 @@ pub record Schedule : Type 0 where
 pub record SourceState : Type 0 where
   pub left : List ℕ
   pub step : ℕ
-  pub schedule : Schedule
+  pub plan : FailurePlan
 
 -- how many bytes a read into a buffer of this length takes
 abbrev pub read_count : SourceState → ℕ → ℕ
@@ -30,8 +33,19 @@ pub record SinkState : Type 0 where
   pub gained : List ℕ
   pub room : ℕ
   pub step : ℕ
-  pub schedule : Schedule
+  pub plan : FailurePlan
 
 -- how many bytes of a piece of this length a write takes
 abbrev pub write_count : SinkState → ℕ → ℕ
 write_count sink size = min sink.step (min size (sink.room - length sink.gained))
+
+-- noise in memory: the events left, and how many of those taken were Failed
+pub record NoiseState : Type 0 where
+  pub left : List Sample
+  pub faults : ℕ
+
+-- the count of faults after an answer
+abbrev pub faults_after : Sample → ℕ → ℕ
+faults_after (sample.Byte byte) faults = faults
+faults_after sample.Ended faults = faults
+faults_after sample.Failed faults = one_more faults

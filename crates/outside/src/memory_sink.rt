@@ -1,10 +1,10 @@
 // Bytes that go to memory.
 ghost use Rattle.std.specs.Prelude.{◌≡◌, ◌≤◌, ◌<◌, ◌+◌, ◌++◌, [], ℕ, List, Some, true, false, Ok, IfOk, IsErr, OnOk, OnErr, take, length};
-ghost use Rattle.outside.specs.Contents.{Gains};
-ghost use Rattle.outside.specs.Faults.{Rose, one_more};
+ghost use Rattle.outside.specs.Contents.{Appends};
+ghost use Rattle.outside.specs.Faults.{FaultCounted, one_more};
 ghost use Rattle.outside.specs.Memory.{is_listed, calls_after, write_count};
 
-use crate::schedule::Schedule;
+use crate::failure_plan::FailurePlan;
 use crate::{Failed, Sink};
 use std::alloc::{AllocError, Global};
 use std::marker::Model;
@@ -15,7 +15,7 @@ pub struct MemSink {
     buffer: Vec<u8>,
     used: usize,
     step: usize,
-    schedule: Schedule,
+    plan: FailurePlan,
 }
 
 impl Model for MemSink {
@@ -24,7 +24,7 @@ impl Model for MemSink {
 
     ghost Value = { SinkState };
 
-    ghost view = { λ a. record { gained = take a.used a.buffer.items; room = length a.buffer.items; step = a.step; schedule = a.schedule } };
+    ghost view = { λ a. record { gained = take a.used a.buffer.items; room = length a.buffer.items; step = a.step; plan = a.plan } };
 
     ghost invariant = { λ a. (a.used ≤ length a.buffer.items) × (0 < a.step) };
 }
@@ -38,7 +38,7 @@ impl MemSink {
           gained = [];
           room = room;
           step = step;
-          schedule = record { fail = fail.items; calls = 0; faults = 0 };
+          plan = record { fail = fail.items; calls = 0; faults = 0 };
         }) }
     {
         let buffer = vec![in alloc; 0; room]?;
@@ -46,7 +46,7 @@ impl MemSink {
             buffer,
             used: 0,
             step,
-            schedule: Schedule::new(fail),
+            plan: FailurePlan::new(fail),
         })
     }
 
@@ -71,36 +71,36 @@ fn append(buffer: &mut Vec<u8>, used: usize, piece: &[u8])
 impl Sink for MemSink {
     ghost gained = { λ sink. Some sink.gained };
 
-    ghost faults = { λ sink. sink.schedule.faults };
+    ghost faults = { λ sink. sink.plan.faults };
 
     /// Takes the least of the step, the length of `piece` and the room left. It fails where no room is left.
     fn write(&mut self, piece: &[u8]) -> Result<usize, Failed>
         ensures size { IfOk result (λ n. n ≤ length piece.now) }
         ensures some { IfOk result (λ n. 0 < length piece.now → 0 < n) }
-        ensures gained { IfOk result (λ n. Gains (Some self.old.gained) (take n piece.now) (Some self.new.gained)) }
+        ensures gained { IfOk result (λ n. Appends (Some self.old.gained) (take n piece.now) (Some self.new.gained)) }
         ensures kept { OnErr result (Some self.new.gained ≡ Some self.old.gained) }
-        ensures rose { OnErr result (Rose self.old.schedule.faults self.new.schedule.faults) }
-        ensures steady { OnOk result (self.new.schedule.faults ≡ self.old.schedule.faults) }
-        ensures never_falls { self.old.schedule.faults ≤ self.new.schedule.faults }
+        ensures fault_counted { OnErr result (FaultCounted self.old.plan.faults self.new.plan.faults) }
+        ensures faults_unchanged { OnOk result (self.new.plan.faults ≡ self.old.plan.faults) }
+        ensures never_falls { self.old.plan.faults ≤ self.new.plan.faults }
 
-        ensures listed { is_listed self.old.schedule.fail (self.old.schedule.calls + 1) ≡ true → IsErr result }
+        ensures listed { is_listed self.old.plan.fail (self.old.plan.calls + 1) ≡ true → IsErr result }
         ensures full { self.old.room ≤ length self.old.gained → IsErr result }
-        ensures unlisted { is_listed self.old.schedule.fail (self.old.schedule.calls + 1) ≡ false →
+        ensures unlisted { is_listed self.old.plan.fail (self.old.plan.calls + 1) ≡ false →
             length self.old.gained < self.old.room → result ≡ Ok (write_count self.old (length piece.now)) }
         ensures after { IfOk result (λ n. self.new ≡ record self.old {
           gained = self.old.gained ++ take n piece.now;
-          schedule = record self.old.schedule { calls = calls_after self.old.schedule.calls };
+          plan = record self.old.plan { calls = calls_after self.old.plan.calls };
         }) }
         ensures after_fault { OnErr result (self.new ≡ record self.old {
-          schedule = record self.old.schedule {
-            calls = calls_after self.old.schedule.calls;
-            faults = one_more self.old.schedule.faults;
+          plan = record self.old.plan {
+            calls = calls_after self.old.plan.calls;
+            faults = one_more self.old.plan.faults;
           };
         }) }
     {
         let room = self.buffer.len() - self.used;
-        if self.schedule.next_fails() || room == 0 {
-            self.schedule.raise();
+        if self.plan.next_fails() || room == 0 {
+            self.plan.raise();
             return Err(Failed);
         }
         let count = self.step.min(piece.len()).min(room);

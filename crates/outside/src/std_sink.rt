@@ -1,7 +1,7 @@
 // Bytes that go to a writer of the standard library.
 ghost use Rattle.std.specs.Prelude.{◌≡◌, ◌≤◌, ◌<◌, ℕ, None, IfOk, IfSome, OnOk, OnErr, IfNone, MatchOption, take, length};
-ghost use Rattle.std.specs.Io.KnownBytes.{Appends, Keeps};
-ghost use Rattle.outside.specs.Faults.{Rose};
+ghost use Rattle.std.specs.Io.KnownBytes.{Appends as WriterAppends, Keeps};
+ghost use Rattle.outside.specs.Faults.{FaultCounted};
 
 use crate::{Failed, Sink};
 use std::io::{ErrorKind, Write};
@@ -39,7 +39,7 @@ impl<W> StdSink<W> {
 // One write. None where the writer failed.
 fn write_once<W: Write>(writer: &mut W, piece: &[u8]) -> Option<usize>
     ensures { MatchOption result (Keeps (W.contents writer.old) (W.contents writer.new)) (λ n.
-        (n ≤ length piece.now) × Appends (W.contents writer.old) (W.contents writer.new) (take n piece.now)) }
+        (n ≤ length piece.now) × WriterAppends (W.contents writer.old) (W.contents writer.new) (take n piece.now)) }
 {
     for _ in 0..TRIES {
         match writer.write(piece) {
@@ -57,9 +57,9 @@ fn write_once<W: Write>(writer: &mut W, piece: &[u8]) -> Option<usize>
 // One write with its flush. None where the writer failed; it may then have taken some of the piece.
 fn deliver<W: Write>(writer: &mut W, piece: &[u8]) -> Option<usize>
     ensures some { IfSome result (λ n. (n ≤ length piece.now)
-        × Appends (W.contents writer.old) (W.contents writer.new) (take n piece.now)) }
+        × WriterAppends (W.contents writer.old) (W.contents writer.new) (take n piece.now)) }
     ensures none { IfNone result ((k : ℕ) × (k ≤ length piece.now)
-        × Appends (W.contents writer.old) (W.contents writer.new) (take k piece.now)) }
+        × WriterAppends (W.contents writer.old) (W.contents writer.new) (take k piece.now)) }
 {
     match write_once(writer, piece) {
         None => None,
@@ -79,14 +79,14 @@ impl<W: Write> Sink for StdSink<W> {
     fn write(&mut self, piece: &[u8]) -> Result<usize, Failed>
         ensures size { IfOk result (λ n. n ≤ length piece.now) }
         ensures some { IfOk result (λ n. 0 < length piece.now → 0 < n) }
-        ensures rose { OnErr result (Rose self.old.faults self.new.faults) }
-        ensures steady { OnOk result (self.new.faults ≡ self.old.faults) }
+        ensures fault_counted { OnErr result (FaultCounted self.old.faults self.new.faults) }
+        ensures faults_unchanged { OnOk result (self.new.faults ≡ self.old.faults) }
         ensures never_falls { self.old.faults ≤ self.new.faults }
 
         ensures delivered { IfOk result (λ n.
-            Appends (W.contents self.old.inner) (W.contents self.new.inner) (take n piece.now)) }
+            WriterAppends (W.contents self.old.inner) (W.contents self.new.inner) (take n piece.now)) }
         ensures broken { OnErr result ((k : ℕ) × (k ≤ length piece.now)
-            × Appends (W.contents self.old.inner) (W.contents self.new.inner) (take k piece.now)) }
+            × WriterAppends (W.contents self.old.inner) (W.contents self.new.inner) (take k piece.now)) }
     {
         match deliver(&mut self.writer, piece) {
             Some(count) if count > 0 || piece.is_empty() => Ok(count),

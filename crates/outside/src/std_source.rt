@@ -1,7 +1,7 @@
 // Bytes that come from a reader of the standard library.
 ghost use Rattle.std.specs.Prelude.{◌≡◌, ◌≤◌, ◌<◌, ℕ, None, IfOk, OnOk, OnErr, MatchOption, take, length};
-ghost use Rattle.std.specs.Io.KnownBytes.{Consumes, IsAtEnd, Keeps, ReadConsumes};
-ghost use Rattle.outside.specs.Faults.{Rose};
+ghost use Rattle.std.specs.Io.KnownBytes.{Consumes as ReaderConsumes, IsAtEnd as ReaderIsAtEnd, Keeps, ReadConsumes};
+ghost use Rattle.outside.specs.Faults.{FaultCounted};
 
 use crate::{Failed, Source};
 use std::io::{ErrorKind, Read};
@@ -39,8 +39,8 @@ impl<R> StdSource<R> {
 // One read. None where the reader failed.
 fn read_once<R: Read>(reader: &mut R, into: &mut [u8]) -> Option<usize>
     ensures { MatchOption result (Keeps (R.remaining reader.old) (R.remaining reader.new)) (λ n. (n ≤ length into.old)
-        × Consumes (R.remaining reader.old) (R.remaining reader.new) (take n into.new)
-        × (n ≡ 0 → 0 < length into.old → IsAtEnd (R.remaining reader.new))) }
+        × ReaderConsumes (R.remaining reader.old) (R.remaining reader.new) (take n into.new)
+        × (n ≡ 0 → 0 < length into.old → ReaderIsAtEnd (R.remaining reader.new))) }
 {
     for _ in 0..TRIES {
         match reader.read(into) {
@@ -63,8 +63,8 @@ impl<R: Read> Source for StdSource<R> {
     /// Where the reader tells its bytes, these come from their front, and a fault takes none of them.
     fn read(&mut self, into: &mut [u8]) -> Result<usize, Failed>
         ensures size { IfOk result (λ n. n ≤ length into.old) }
-        ensures rose { OnErr result (Rose self.old.faults self.new.faults) }
-        ensures steady { OnOk result (self.new.faults ≡ self.old.faults) }
+        ensures fault_counted { OnErr result (FaultCounted self.old.faults self.new.faults) }
+        ensures faults_unchanged { OnOk result (self.new.faults ≡ self.old.faults) }
         ensures never_falls { self.old.faults ≤ self.new.faults }
 
         ensures handed { ReadConsumes (R.remaining self.old.inner) (R.remaining self.new.inner) result into.new }

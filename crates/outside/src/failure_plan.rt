@@ -9,15 +9,15 @@ const PAST_EVERY_LIST: u128 = 1 << 64;
 
 // The numbers of the calls that fail, counted from 1, beside the calls made and the faults raised.
 #[derive(Drop)]
-pub(crate) struct Schedule {
+pub(crate) struct FailurePlan {
     fail: Vec<u64>,
     calls: u128,
     faults: u64,
 }
 
-impl Model for Schedule {
+impl Model for FailurePlan {
     ghost use Rattle.std.specs.Prelude.{◌≤◌, ◌^◌};
-    ghost use Rattle.outside.specs.Memory.{Schedule as Calls};
+    ghost use Rattle.outside.specs.Memory.{FailurePlan as Calls};
 
     ghost Value = { Calls };
 
@@ -26,11 +26,11 @@ impl Model for Schedule {
     ghost invariant = { λ a. a.calls ≤ 2 ^ 64 };
 }
 
-impl Schedule {
+impl FailurePlan {
     pub(crate) fn new(fail: Vec<u64>) -> Self
         ensures { result ≡ record { fail = fail.items; calls = 0; faults = 0 } }
     {
-        Schedule {
+        FailurePlan {
             fail,
             calls: 0,
             faults: 0,
