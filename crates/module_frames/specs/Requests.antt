@@ -13,6 +13,12 @@ use Rattle.service_table.specs.declared.service.Service.TheVariants as service
 use Rattle.module_frames.specs.declared.request.Request.{Request}
 use Rattle.module_frames.specs.declared.request.Request.TheVariants as request
 
+-- what a command asks of a cryptographic service
+pub data CryptographicRequest : Type 0 where
+  Hash : (alg : Alg) (text : List ℕ) → CryptographicRequest
+  Mac : (slot : ℕ) (alg : Alg) (mac_length : ℕ) (text : List ℕ) → CryptographicRequest
+  MacVerify : (slot : ℕ) (alg : Alg) (tag text : List ℕ) → CryptographicRequest
+
 -- what a command asks for
 pub data RequestValue : Type 0 where
   PowerOn : (period : ℕ) → RequestValue
@@ -29,9 +35,7 @@ pub data RequestValue : Type 0 where
   Zeroise : (slot : ℕ) → RequestValue
   ZeroiseAll : RequestValue
   ShowSlot : (slot : ℕ) → RequestValue
-  Hash : (alg : Alg) (text : List ℕ) → RequestValue
-  Mac : (slot : ℕ) (alg : Alg) (mac_length : ℕ) (text : List ℕ) → RequestValue
-  MacVerify : (slot : ℕ) (alg : Alg) (tag text : List ℕ) → RequestValue
+  Cryptographic : (what : CryptographicRequest) → RequestValue
 
 abbrev pub request_value : Request → RequestValue
 request_value (request.PowerOn period) = PowerOn period
@@ -48,9 +52,9 @@ request_value request.EntryAbort = EntryAbort
 request_value (request.Zeroise slot) = Zeroise slot
 request_value request.ZeroiseAll = ZeroiseAll
 request_value (request.ShowSlot slot) = ShowSlot slot
-request_value (request.Hash alg text) = Hash alg text.now
-request_value (request.Mac slot alg mac_length text) = Mac slot alg mac_length text.now
-request_value (request.MacVerify slot alg tag text) = MacVerify slot alg tag.now text.now
+request_value (request.Hash alg text) = Cryptographic (Hash alg text.now)
+request_value (request.Mac slot alg mac_length text) = Cryptographic (Mac slot alg mac_length text.now)
+request_value (request.MacVerify slot alg tag text) = Cryptographic (MacVerify slot alg tag.now text.now)
 
 -- a period of four bytes, at most 1,000,000
 abbrev pub power_on_of : List ℕ → Option RequestValue
@@ -102,7 +106,7 @@ slot_of body = if length body == 1 && nat_lt (slice_index body 0) 16 then Some (
 abbrev pub hash_of : List ℕ → Option RequestValue
 hash_of body =
     if nat_le 1 (length body)
-    then option_map (λ alg. Hash alg (drop 1 body)) (alg_of (slice_index body 0))
+    then option_map (λ alg. Cryptographic (Hash alg (drop 1 body))) (alg_of (slice_index body 0))
     else None
 
 -- a MAC has at least one byte, and at most the hash's size
@@ -113,7 +117,7 @@ is_mac_length alg mac_length = nat_le 1 mac_length && nat_le mac_length (alg_siz
 abbrev pub mac_with : ℕ → Option Alg → ℕ → List ℕ → Option RequestValue
 mac_with slot (Some alg) mac_length text =
     if nat_lt slot 16 && is_mac_length alg mac_length
-    then Some (Mac slot alg mac_length text)
+    then Some (Cryptographic (Mac slot alg mac_length text))
     else None
 mac_with slot None mac_length text = None
 
@@ -128,7 +132,7 @@ mac_of body =
 abbrev pub verify_with : ℕ → Option Alg → ℕ → List ℕ → Option RequestValue
 verify_with slot (Some alg) mac_length remainder =
     if nat_lt slot 16 && (is_mac_length alg mac_length && nat_le mac_length (length remainder))
-    then Some (MacVerify slot alg (take mac_length remainder) (drop mac_length remainder))
+    then Some (Cryptographic (MacVerify slot alg (take mac_length remainder) (drop mac_length remainder)))
     else None
 verify_with slot None mac_length remainder = None
 
@@ -163,19 +167,34 @@ request_of service.Mac body = mac_of body
 request_of service.MacVerify body = mac_verify_of body
 
 -- the numbers of a request are within their bounds
+abbrev pub IsCryptographicInRange : CryptographicRequest → Type 0
+IsCryptographicInRange (Hash alg text) = Unit {0}
+IsCryptographicInRange (Mac slot alg mac_length text) = (slot < 16) × (1 ≤ mac_length) × (mac_length ≤ alg_size alg)
+IsCryptographicInRange (MacVerify slot alg tag text) = (slot < 16) × (1 ≤ length tag) × (length tag ≤ alg_size alg)
+
 abbrev pub IsInRange : RequestValue → Type 0
 IsInRange (PowerOn period) = period ≤ 1000000
+IsInRange TestStep = Unit {0}
+IsInRange RequestTests = Unit {0}
+IsInRange ShowStatus = Unit {0}
+IsInRange ShowVersion = Unit {0}
 IsInRange (SelectRole role) = role ≤ 2
+IsInRange Reset = Unit {0}
 IsInRange (EntryBegin slot header long) = (slot < 16) × (1 ≤ header.uses) × IsTrue (length_fits header.kind header.domain long)
 IsInRange (EntryBytes piece) = (1 ≤ length piece) × (length piece ≤ 64)
 IsInRange (EntryCommit check) = length check ≡ 8
+IsInRange EntryAbort = Unit {0}
 IsInRange (Zeroise slot) = slot < 16
+IsInRange ZeroiseAll = Unit {0}
 IsInRange (ShowSlot slot) = slot < 16
-IsInRange (Mac slot alg mac_length text) = (slot < 16) × (1 ≤ mac_length) × (mac_length ≤ alg_size alg)
-IsInRange (MacVerify slot alg tag text) = (slot < 16) × (1 ≤ length tag) × (length tag ≤ alg_size alg)
-IsInRange other = Unit {0}
+IsInRange (Cryptographic what) = IsCryptographicInRange what
 
 -- the service that a request is for
+abbrev pub cryptographic_service_for : CryptographicRequest → Service
+cryptographic_service_for (Hash alg text) = service.Hash
+cryptographic_service_for (Mac slot alg mac_length text) = service.Mac
+cryptographic_service_for (MacVerify slot alg tag text) = service.MacVerify
+
 abbrev pub service_for : RequestValue → Service
 service_for (PowerOn period) = service.PowerOn
 service_for TestStep = service.TestStep
@@ -191,6 +210,4 @@ service_for EntryAbort = service.EntryAbort
 service_for (Zeroise slot) = service.Zeroise
 service_for ZeroiseAll = service.ZeroiseAll
 service_for (ShowSlot slot) = service.ShowSlot
-service_for (Hash alg text) = service.Hash
-service_for (Mac slot alg mac_length text) = service.Mac
-service_for (MacVerify slot alg tag text) = service.MacVerify
+service_for (Cryptographic what) = cryptographic_service_for what

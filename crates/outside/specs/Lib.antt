@@ -3,3 +3,4 @@ pub mod Contents
 pub mod Events
 pub mod Faults
 pub mod Memory
+pub mod Explained

@@ -1,14 +1,17 @@
--- The commit of an entry (ISO/IEC 19790:2012, 7.9.5): it is whole, its slot is empty, and it checks.
-use Rattle.std.specs.Prelude.{◌≡◌, ℕ, ◌==◌, not, is_some, List, [], ◌∷◌, ◌++◌, length, take, Option, Some, None, if◌then◌else◌}
+-- The commit of an entry (ISO/IEC 19790:2012, 7.9.5, asks that entered parameters are checked; how is this project's own): it is whole,
+-- its slot is empty, and it checks.
+use Rattle.std.specs.Prelude.{ℕ, ◌==◌, not, Bool, true, false, List, [], ◌∷◌, ◌++◌, length, take, if◌then◌else◌}
 use Rattle.std.specs.Int.{to_be_bytes, w32}
 use Rattle.std.specs.Str.{bytes_eq}
 use Rattle.bits_core.specs.declared.algorithm.Alg.TheVariants.{Sha256}
 use Rattle.bits_core.specs.Parameters.{kind_number, domain_number}
 use Rattle.service_table.specs.declared.status.Status.{Status}
 use Rattle.service_table.specs.declared.status.Status.TheVariants as status
-use Rattle.ssp_slots.specs.Slots.{slot_in, with_slot, filled_slot}
+use Rattle.ssp_slots.specs.declared.slot.Slot.{Slot}
+use Rattle.ssp_slots.specs.Refusals.{vacancy_fault}
+use Rattle.ssp_slots.specs.Slots.{filled_slot}
 use Rattle.engine_core.specs.Calls.{Calls}
-use Rattle.crypto_services.specs.Core.{Core}
+use Rattle.crypto_services.specs.AtSlots.{SlotResult, refused_at, unless_fault, success}
 use Rattle.state_model.specs.declared.entry.Entry.{Entry}
 use Rattle.state_model.specs.declared.entry.Target.{Target}
 
@@ -26,39 +29,21 @@ entered entry = take entry.filled entry.bytes
 abbrev pub check_value : {V : Type 0} → Calls V → V → Target → List ℕ → List ℕ
 check_value calls engine target bytes = take 8 (calls.mac engine Sha256 bytes (target_bytes target))
 
--- what a commit leaves of engine and slots, and its status
-pub record Committed (V : Type 0) : Type 0 where
-  pub core : Core V
-  pub status : Status
-
-abbrev pub not_committed : {V : Type 0} → Core V → Status → Committed V
-not_committed core why = record { core = core; status = why }
-
 -- the engine has made the MAC of a check
-abbrev pub after_check : {V : Type 0} → Calls V → Core V → Target → List ℕ → Core V
-after_check calls core target bytes = record core { engine = calls.mac_after core.engine Sha256 bytes (target_bytes target) }
+abbrev pub after_check : {V : Type 0} → Calls V → V → Target → List ℕ → V
+after_check calls engine target bytes = calls.mac_after engine Sha256 bytes (target_bytes target)
 
--- the target's slot holds the parameter
-abbrev pub filled : {V : Type 0} → Core V → Target → List ℕ → Core V
-filled core target bytes = record core { vault = with_slot core.vault target.slot (filled_slot target.header bytes) }
+-- refused for a reason that applies, and else served
+abbrev pub unless : {V : Type 0} → V → Slot → Bool → Status → SlotResult V → SlotResult V
+unless engine slot true why served = refused_at engine slot why
+unless engine slot false why served = served
 
-abbrev pub checked : {V : Type 0} → Calls V → Core V → Target → List ℕ → List ℕ → Committed V
-checked calls core target bytes check =
-    let after = after_check calls core target bytes in
-    if bytes_eq check (check_value calls core.engine target bytes)
-    then record { core = filled after target bytes; status = status.Ok }
-    else not_committed after status.CheckFailed
-
--- Looked at in this order: as many bytes were entered as the parameter has, the slot is empty, and the check value is right. Then
--- the slot holds the parameter.
-abbrev pub committed : {V : Type 0} → Calls V → Core V → Option Target → List ℕ → List ℕ → Committed V
-committed calls core None bytes check = not_committed core status.BadLength
-committed calls core (Some target) bytes check =
-    if not (length bytes == target.length) then not_committed core status.BadLength
-    else if is_some (slot_in core.vault target.slot).header then not_committed core status.OccupiedSlot
-    else checked calls core target bytes check
-
--- engine, slots and status are those of a commit
-pub record Commits {V : Type 0} (did : Committed V) (core : Core V) (why : Status) : Type 0 where
-  pub same_core : core ≡ did.core
-  pub same_status : why ≡ did.status
+-- A commit at the target's slot. Looked at in this order: as many bytes were entered as the parameter has, the slot is empty, and the
+-- check value is right. Then the slot holds the parameter.
+abbrev pub commit_at : {V : Type 0} → Calls V → V → Target → List ℕ → List ℕ → Slot → SlotResult V
+commit_at calls engine target bytes check slot =
+    let after = after_check calls engine target bytes in
+    unless engine slot (not (length bytes == target.length)) status.BadLength
+    (unless_fault engine slot (vacancy_fault slot.header)
+    (unless after slot (not (bytes_eq check (check_value calls engine target bytes))) status.CheckFailed
+    (record { engine = after; slot = filled_slot target.header bytes; answer = success [] })))

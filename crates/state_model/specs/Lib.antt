@@ -2,8 +2,11 @@ pub mod Entries
 pub mod SlotBlock
 pub mod MachineState
 pub mod Commit
+pub mod Management
+pub mod Cryptographic
 pub mod Step
-pub mod Kept
-pub mod Held
+pub mod Laws
+pub mod ModuleView
 pub mod Represents
-pub mod Asking
+pub mod ModuleInvariant
+pub mod Permission

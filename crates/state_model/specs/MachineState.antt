@@ -1,53 +1,81 @@
--- What the machine keeps, and the rules of it.
-use Rattle.std.specs.Prelude.{◌≡◌, ◌≢◌, ◌≤◌, ◌<◌, ℕ}
+-- What the machine keeps, by who may ever depend on a key; and the rules of it, which are this project's own.
+use Rattle.std.specs.Prelude.{◌≡◌, ◌≢◌, ◌≤◌, ◌<◌, ℕ, List, [], replicate, take, None}
+use Rattle.noise_health.specs.Signals.{health_signal}
 use Rattle.service_table.specs.declared.state.State.{State}
 use Rattle.service_table.specs.declared.state.State.TheVariants as state
-use Rattle.ssp_slots.specs.Slots.{empty_vault, AreWellFormed}
-use Rattle.crypto_services.specs.Core.{Core}
+use Rattle.ssp_slots.specs.declared.slot.Slot.{Slot}
+use Rattle.ssp_slots.specs.Slots.{Contents, empty_slot, AreWellFormed}
+use Rattle.module_frames.specs.declared.public_state.PublicState.{PublicState}
+use Rattle.module_frames.specs.PublicState.{unpowered}
 use Rattle.state_model.specs.declared.entry.Entry.{Entry}
 use Rattle.state_model.specs.Entries.{no_entry, IsUnderway}
-use Rattle.module_frames.specs.PublicState.{PublicState}
 
--- all that the machine keeps: the state, the state to return to from self-tests and how many of them were done, the period and the
--- uses since the last tests, the engine and sixteen slots, and the parameter that is being entered
+-- All that no key ever reaches where the engine is standard: what everyone may see, the tests that passed (test i is the bit of value
+-- 2^i), the engine, and the samples of noise since power came or since the last Reset.
+pub record Shared (V : Type 0) : Type 0 where
+  pub public : PublicState
+  pub tests_passed : ℕ
+  pub engine : V
+  pub samples : List ℕ
+
+-- beside it the slots, and the parameter that is being entered
 pub record MachineState (V : Type 0) : Type 0 where
-  pub state : State
-  pub back : State
-  pub step : ℕ
-  pub period : ℕ
-  pub count : ℕ
-  pub core : Core V
+  pub shared : Shared V
+  pub slots : List Slot
   pub entry : Entry
+
+-- sixteen empty slots
+abbrev pub no_slots : List Slot
+no_slots = replicate 16 empty_slot
 
 -- not powered, and all else zero or empty
 abbrev pub initial_state : {V : Type 0} → V → MachineState V
 initial_state engine =
-    record { state = state.Off; back = state.Off; step = 0; period = 0; count = 0; core = record { engine = engine; vault = empty_vault }; entry = no_entry }
+    record { shared = record { public = unpowered; tests_passed = 0; engine = engine; samples = [] }; slots = no_slots; entry = no_entry }
+
+abbrev pub state_of : {V : Type 0} → MachineState V → State
+state_of s = s.shared.public.state
+
+-- the slots as a vault keeps them
+abbrev pub vault_of : {V : Type 0} → MachineState V → Contents
+vault_of s = record { slots = s.slots }
 
 -- a state to which self-tests return
 abbrev pub IsReturn : State → Type 0
+IsReturn state.Off = ⊥
+IsReturn state.Init = ⊥
+IsReturn state.SelfTest = ⊥
 IsReturn state.Approved = Unit {0}
 IsReturn state.Officer = Unit {0}
 IsReturn state.User = Unit {0}
-IsReturn other = ⊥
+IsReturn state.Entry = ⊥
+IsReturn state.Error = ⊥
+
+-- no first samples show a fault (SP 800-90B, 4.4)
+abbrev pub AreHealthy : List ℕ → Type 0
+AreHealthy samples = (n : ℕ) → health_signal (take n samples) ≡ None
+
+-- the rules of what everyone may see
+pub record IsPublicState (public : PublicState) : Type 0 where
+  pub period : public.period ≤ 1000000
+  -- uses are counted up to the period, and with a period of 0 or before power none is; what failed may have failed in the last one
+  pub counting : public.state ≢ state.Error → 0 < public.period → public.uses_since_tests < public.period
+  pub uncounted : public.period ≡ 0 → public.uses_since_tests ≡ 0
+  pub unpowered : public.state ≡ state.Off → public.uses_since_tests ≡ 0
+  -- while tests are due, they return to a state of use, and at most two of the three were done
+  pub testing : public.state ≡ state.SelfTest → IsReturn public.return_state × (public.tests_done ≤ 2)
+  -- else both are zero
+  pub settled : public.state ≢ state.SelfTest → (public.return_state ≡ state.Off) × (public.tests_done ≡ 0)
+  -- nothing has failed but in Error
+  pub faultless : public.state ≢ state.Error → public.error_code ≡ 0
 
 -- the rules
 pub record IsWellFormed {V : Type 0} (s : MachineState V) : Type 0 where
-  pub period : s.period ≤ 1000000
-  -- uses are counted up to the period, and with a period of 0 or before power none is
-  pub counting : 0 < s.period → s.count < s.period
-  pub uncounted : s.period ≡ 0 → s.count ≡ 0
-  pub unpowered : s.state ≡ state.Off → s.count ≡ 0
-  -- while tests are due, they return to a state of use, and at most two of the three were done
-  pub testing : s.state ≡ state.SelfTest → IsReturn s.back × (s.step ≤ 2)
-  -- else both are zero
-  pub settled : s.state ≢ state.SelfTest → (s.back ≡ state.Off) × (s.step ≡ 0)
+  pub public : IsPublicState s.shared.public
+  -- the noise was healthy, but where that failed
+  pub healthy : state_of s ≢ state.Error → AreHealthy s.shared.samples
   -- each slot is empty, and zero then, or holds a parameter that fits
-  pub slots : AreWellFormed s.core.vault.slots
+  pub slots : AreWellFormed (vault_of s)
   -- in Entry a parameter is being entered, and else none
-  pub entering : s.state ≡ state.Entry → IsUnderway s.entry
-  pub wiped : s.state ≢ state.Entry → s.entry ≡ no_entry
-
--- the part that everyone may see
-abbrev pub public_of : {V : Type 0} → MachineState V → PublicState
-public_of s = record { state = s.state; back = s.back; step = s.step; period = s.period; count = s.count }
+  pub entering : state_of s ≡ state.Entry → IsUnderway s.entry
+  pub wiped : state_of s ≢ state.Entry → s.entry ≡ no_entry

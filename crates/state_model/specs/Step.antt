@@ -1,172 +1,107 @@
 -- One step of the machine.
-use Rattle.std.specs.Prelude.{◌≡◌, ◌≢◌, ◌⊎◌, ℕ, ◌+◌, ◌==◌, ◌&&◌, nat_lt, nat_le, length, Bool, false, List, [], Option, None, Some, if◌then◌else◌}
-use Rattle.service_table.specs.declared.class.Class.TheVariants as class
+use Rattle.std.specs.Prelude.{ℕ, List, [], ◌∷◌, Bool, false, Option, Some, None, length, if◌then◌else◌}
 use Rattle.service_table.specs.declared.service.Service.{Service}
-use Rattle.service_table.specs.declared.state.State.{State}
-use Rattle.service_table.specs.declared.state.State.TheVariants as state
+use Rattle.service_table.specs.declared.service.Service.TheVariants as service
 use Rattle.service_table.specs.declared.status.Status.{Status}
 use Rattle.service_table.specs.declared.status.Status.TheVariants as status
-use Rattle.module_frames.specs.Requests.{Asked, request_of}
-use Rattle.module_frames.specs.Requests as asking
 use Rattle.service_table.specs.Numbers.{service_numbered}
-use Rattle.service_table.specs.Services.{is_permitted, class_of}
+use Rattle.service_table.specs.Services.{is_permitted}
+use Rattle.ssp_slots.specs.declared.slot.Slot.{Slot}
+use Rattle.outside.specs.declared.traits.Sample.{Sample}
 use Rattle.module_frames.specs.CommandFrames.{CommandFrame}
 use Rattle.module_frames.specs.ReplyFrames.{ReplyFrame}
-use Rattle.module_frames.specs.PublicState.{status_block, version_block, no_block}
-use Rattle.ssp_slots.specs.Slots.{empty_slot, empty_vault, slot_in, with_slot}
+use Rattle.module_frames.specs.Requests.{RequestValue, request_of}
+use Rattle.module_frames.specs.Requests as request
+use Rattle.module_frames.specs.PublicState.{no_block, status_block, version_block}
 use Rattle.engine_core.specs.Calls.{Calls}
-use Rattle.crypto_services.specs.Core.{Served, hash_served, mac_served, mac_verify_served}
-use Rattle.bits_core.specs.ByteList.{IsBytes}
-use Rattle.state_model.specs.declared.entry.Target.{Target}
-use Rattle.state_model.specs.Entries.{no_entry, begun_entry, with_piece, entry_length}
-use Rattle.state_model.specs.Commit.{committed, entered}
+use Rattle.crypto_services.specs.AtSlots.{SlotsResult, on_slot, slot_at}
+use Rattle.crypto_services.specs.Services.{hash_result, mac_at, mac_verify_at}
+use Rattle.crypto_services.specs.Indicator.{ServiceUse, indicator}
 use Rattle.state_model.specs.SlotBlock.{slot_block}
-use Rattle.state_model.specs.MachineState.{MachineState, IsWellFormed, public_of}
-
--- what a step leaves, and what it answers
-pub record Stepped (V : Type 0) : Type 0 where
-  pub machine : MachineState V
-  pub status : Status
-  pub approved : Bool
-  pub block : List ℕ
-  pub payload : List ℕ
-
--- a refusal changes nothing and tells nothing but its reason
-abbrev pub refused : {V : Type 0} → MachineState V → Status → Stepped V
-refused s why = record { machine = s; status = why; approved = false; block = no_block; payload = [] }
-
--- a service was done that is no cryptographic one
-abbrev pub done : {V : Type 0} → MachineState V → List ℕ → Stepped V
-done after block = record { machine = after; status = status.Ok; approved = false; block = block; payload = [] }
-
--- PowerOn: Off to Init, and sets the period, of which no use is counted yet
-abbrev pub power_on : {V : Type 0} → MachineState V → ℕ → MachineState V
-power_on s period = record s { state = state.Init; period = period; count = 0 }
-
--- where self-tests return that were asked for in this state: where it was, and from Init to Approved
-abbrev pub return_from : State → State
-return_from state.Init = state.Approved
-return_from other = other
-
--- RequestTests: the tests are due from the first one on, and a period begins
-abbrev pub request_tests : {V : Type 0} → MachineState V → MachineState V
-request_tests s = record s { state = state.SelfTest; back = return_from s.state; step = 0; count = 0 }
-
--- TestStep: the next of three steps, and after the last one back. No step makes a test yet.
-abbrev pub test_step : {V : Type 0} → MachineState V → MachineState V
-test_step s =
-    if nat_lt s.step 2
-    then record s { step = s.step + 1 }
-    else record s { state = s.back; back = state.Off; step = 0 }
-
--- the state of a role: none, the crypto officer's, the user's
-abbrev pub role_state : ℕ → State
-role_state role = if role == 0 then state.Approved else if role == 1 then state.Officer else state.User
-
--- SelectRole: the state of the role
-abbrev pub select_role : {V : Type 0} → MachineState V → ℕ → MachineState V
-select_role s role = record s { state = role_state role }
-
--- Reset: to Init, all slots are empty and nothing is entered; the period and the engine stay
-abbrev pub reset : {V : Type 0} → MachineState V → MachineState V
-reset s = record s { state = state.Init; back = state.Off; step = 0; count = 0; core = record s.core { vault = empty_vault }; entry = no_entry }
-
--- EntryBegin: a parameter is entered for this target. The slot isn't looked at.
-abbrev pub entry_begin : {V : Type 0} → MachineState V → Target → MachineState V
-entry_begin s target = record s { state = state.Entry; entry = begun_entry target }
-
--- EntryBytes: the piece is appended. Where it would pass the parameter's length, nothing changes.
-abbrev pub entry_bytes : {V : Type 0} → MachineState V → List ℕ → Stepped V
-entry_bytes s piece =
-    if nat_le (s.entry.filled + length piece) (entry_length s.entry)
-    then done (record s { entry = with_piece s.entry piece }) no_block
-    else refused s status.BadLength
-
--- EntryAbort: the entry is wiped
-abbrev pub entry_abort : {V : Type 0} → MachineState V → MachineState V
-entry_abort s = record s { state = state.Officer; entry = no_entry }
-
--- Zeroise: the slot is empty, and no other changes
-abbrev pub zeroise : {V : Type 0} → MachineState V → ℕ → MachineState V
-zeroise s slot = record s { core = record s.core { vault = with_slot s.core.vault slot empty_slot } }
-
--- ZeroiseAll: all slots are empty
-abbrev pub zeroise_all : {V : Type 0} → MachineState V → MachineState V
-zeroise_all s = record s { core = record s.core { vault = empty_vault } }
-
--- EntryCommit: whatever becomes of it, the entry is wiped and the officer goes on
-abbrev pub entry_commit : {V : Type 0} → Calls V → MachineState V → List ℕ → Stepped V
-entry_commit calls s check =
-    let did = committed calls s.core s.entry.target (entered s.entry) check in
-    record { machine = record s { state = state.Officer; core = did.core; entry = no_entry }; status = did.status; approved = false; block = no_block; payload = [] }
-
--- the count after one more use; with a period of 0 no use is counted
-abbrev pub counted_up : ℕ → ℕ → ℕ
-counted_up period count = if period == 0 then count else count + 1
-
--- a use was counted; where the period is over, the tests are due and lead back
-abbrev pub used : {V : Type 0} → MachineState V → MachineState V
-used s =
-    if nat_lt 0 s.period && counted_up s.period s.count == s.period
-    then record s { state = state.SelfTest; back = s.state; step = 0; count = 0 }
-    else record s { count = counted_up s.period s.count }
-
--- a cryptographic service: its use is counted, whatever its status
-abbrev pub served : {V : Type 0} → MachineState V → Served V → Stepped V
-served s did = record { machine = used (record s { core = did.core }); status = did.status; approved = did.approved; block = no_block; payload = did.payload }
+use Rattle.state_model.specs.MachineState.{MachineState, state_of}
+use Rattle.state_model.specs.Management.{Stepped, refused, done, power_on, request_tests, test_step, select_role, reset, entry_begin, entry_bytes, entry_commit, entry_over, zeroise, zeroise_all}
+use Rattle.state_model.specs.Cryptographic.{cryptographic_step}
 
 -- what is done for a request; three services tell something in the block
-abbrev pub done_for : {V : Type 0} → Calls V → MachineState V → Asked → Stepped V
-done_for calls s (asking.PowerOn period) = done (power_on s period) no_block
-done_for calls s asking.TestStep = done (test_step s) no_block
-done_for calls s asking.RequestTests = done (request_tests s) no_block
-done_for calls s asking.ShowStatus = done s (status_block (public_of s))
-done_for calls s asking.ShowVersion = done s version_block
-done_for calls s (asking.SelectRole role) = done (select_role s role) no_block
-done_for calls s asking.Reset = done (reset s) no_block
-done_for calls s (asking.EntryBegin slot header long) = done (entry_begin s (record { slot = slot; header = header; length = long })) no_block
-done_for calls s (asking.EntryBytes piece) = entry_bytes s piece
-done_for calls s (asking.EntryCommit check) = entry_commit calls s check
-done_for calls s asking.EntryAbort = done (entry_abort s) no_block
-done_for calls s (asking.Zeroise slot) = done (zeroise s slot) no_block
-done_for calls s asking.ZeroiseAll = done (zeroise_all s) no_block
-done_for calls s (asking.ShowSlot slot) = done s (slot_block (slot_in s.core.vault slot))
-done_for calls s (asking.Hash alg text) = served s (hash_served calls s.core alg text)
-done_for calls s (asking.Mac slot alg mac_length text) = served s (mac_served calls s.core slot alg mac_length text)
-done_for calls s (asking.MacVerify slot alg tag text) = served s (mac_verify_served calls s.core slot alg tag text)
+abbrev pub perform : {V : Type 0} → Calls V → MachineState V → List Sample → RequestValue → Stepped V
+perform calls s events (request.PowerOn period) = done (power_on s period) no_block events
+perform calls s events request.TestStep = done (test_step s) no_block events
+perform calls s events request.RequestTests = done (request_tests s) no_block events
+perform calls s events request.ShowStatus = done s (status_block s.shared.public s.shared.tests_passed) events
+perform calls s events request.ShowVersion = done s version_block events
+perform calls s events (request.SelectRole role) = done (select_role s role) no_block events
+perform calls s events request.Reset = done (reset s) no_block events
+perform calls s events (request.EntryBegin slot header long) = done (entry_begin s (record { slot = slot; header = header; length = long })) no_block events
+perform calls s events (request.EntryBytes piece) = entry_bytes s piece events
+perform calls s events (request.EntryCommit check) = entry_commit calls s check events
+perform calls s events request.EntryAbort = done (entry_over s) no_block events
+perform calls s events (request.Zeroise slot) = done (zeroise s slot) no_block events
+perform calls s events request.ZeroiseAll = done (zeroise_all s) no_block events
+perform calls s events (request.ShowSlot slot) = done s (slot_block (slot_at s.slots slot)) events
+perform calls s events (request.Hash alg text) =
+    cryptographic_step s events (request.Hash alg text) (λ engine drawn slots. hash_result calls engine alg text slots)
+perform calls s events (request.Mac slot alg mac_length text) =
+    cryptographic_step s events (request.Mac slot alg mac_length text) (λ engine drawn slots. on_slot slots slot (mac_at calls engine alg mac_length text))
+perform calls s events (request.MacVerify slot alg tag text) =
+    cryptographic_step s events (request.MacVerify slot alg tag text) (λ engine drawn slots. on_slot slots slot (mac_verify_at calls engine alg tag text))
 
--- The one order: a number that is no service's, a service that isn't permitted in this state, a body that isn't of its
--- form. The first of these that holds is the reason of refusal.
-abbrev pub asked : {V : Type 0} → Calls V → MachineState V → Option Asked → Stepped V
-asked calls s None = refused s status.BadBody
-asked calls s (Some what) = done_for calls s what
+-- The order of refusals: a number that is no service's, a service that isn't permitted in this state, a body that isn't of its
+-- form. The first of these that holds is the reason.
+abbrev pub dispatch_request : {V : Type 0} → Calls V → MachineState V → List Sample → Option RequestValue → Stepped V
+dispatch_request calls s events None = refused s status.BadBody events
+dispatch_request calls s events (Some what) = perform calls s events what
 
-abbrev pub ordered : {V : Type 0} → Calls V → MachineState V → Option Service → List ℕ → Stepped V
-ordered calls s None body = refused s status.UnknownService
-ordered calls s (Some service) body =
-    if is_permitted service s.state then asked calls s (request_of service body) else refused s status.NotInState
+abbrev pub dispatch : {V : Type 0} → Calls V → MachineState V → List Sample → Option Service → List ℕ → Stepped V
+dispatch calls s events None body = refused s status.UnknownService events
+dispatch calls s events (Some service) body =
+    if is_permitted service (state_of s) then dispatch_request calls s events (request_of service body) else refused s status.NotInState events
 
-unfoldable pub step : {V : Type 0} → Calls V → MachineState V → CommandFrame → Stepped V
-step calls s command = ordered calls s (service_numbered command.service) command.body
+-- A step for a command, where these events of noise are left.
+unfoldable pub step : {V : Type 0} → Calls V → MachineState V → List Sample → CommandFrame → Stepped V
+step calls s events command = dispatch calls s events (service_numbered command.service) command.body
 
--- the reply to a command, after its step
+-- the request that a command makes, where its service is known and its body is of the form
+abbrev pub request_at : Option Service → List ℕ → Option RequestValue
+request_at None body = None
+request_at (Some service) body = request_of service body
+
+-- a service that is no cryptographic one names no slot and has no MAC
+abbrev pub no_use : Service → ServiceUse
+no_use service = record { service = service; mac_length = 0; named = [] }
+
+-- the use of a service that a request makes: the MAC's length, and the slots that it names
+abbrev pub use_of : RequestValue → ServiceUse
+use_of (request.PowerOn period) = no_use service.PowerOn
+use_of request.TestStep = no_use service.TestStep
+use_of request.RequestTests = no_use service.RequestTests
+use_of request.ShowStatus = no_use service.ShowStatus
+use_of request.ShowVersion = no_use service.ShowVersion
+use_of (request.SelectRole role) = no_use service.SelectRole
+use_of request.Reset = no_use service.Reset
+use_of (request.EntryBegin slot header long) = no_use service.EntryBegin
+use_of (request.EntryBytes piece) = no_use service.EntryBytes
+use_of (request.EntryCommit check) = no_use service.EntryCommit
+use_of request.EntryAbort = no_use service.EntryAbort
+use_of (request.Zeroise slot) = no_use service.Zeroise
+use_of request.ZeroiseAll = no_use service.ZeroiseAll
+use_of (request.ShowSlot slot) = no_use service.ShowSlot
+use_of (request.Hash alg text) = record { service = service.Hash; mac_length = 0; named = [] }
+use_of (request.Mac slot alg mac_length text) = record { service = service.Mac; mac_length = mac_length; named = slot ∷ [] }
+use_of (request.MacVerify slot alg tag text) = record { service = service.MacVerify; mac_length = length tag; named = slot ∷ [] }
+
+-- The indicator of a reply, by the command, its status and the slots after it; a command that makes no request has none.
+abbrev pub indicated : Option RequestValue → Status → List Slot → Bool
+indicated None why slots = false
+indicated (Some what) why slots = indicator (use_of what) why slots
+
+-- the reply to a command, after its step: state and error code are those after it, also where it was refused
 abbrev pub reply_to : {V : Type 0} → CommandFrame → Stepped V → ReplyFrame
 reply_to command after = record {
   service = command.service;
   status = after.status;
-  state = after.machine.state;
-  approved = after.approved;
-  code = 0;
+  state = state_of after.machine;
+  approved = indicated (request_at (service_numbered command.service) command.body) after.status after.machine.slots;
+  code = after.machine.shared.public.error_code;
   block = after.block;
   payload = after.payload;
 }
-
--- a step for a command whose body is bytes keeps the rules
-abbrev pub StepsKeepTheRules : {V : Type 0} → Calls V → Type 0
-StepsKeepTheRules {V} calls = (s : MachineState V) (command : CommandFrame) → IsBytes command.body → IsWellFormed s → IsWellFormed (step calls s command).machine
-
--- data is given in a role alone, by a service of class data alone, and only where it was done
-abbrev pub DataNeedsARole : {V : Type 0} → Calls V → Type 0
-DataNeedsARole {V} calls = (s : MachineState V) (command : CommandFrame) → (step calls s command).payload ≢ []
-    → ((step calls s command).status ≡ status.Ok) × ((s.state ≡ state.Officer) ⊎ (s.state ≡ state.User))
-    × ((found : Service) × (service_numbered command.service ≡ Some found) × (class_of found ≡ class.Payload))

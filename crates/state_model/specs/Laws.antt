@@ -1,0 +1,60 @@
+-- What holds of every step, with any engine.
+use Rattle.std.specs.Prelude.{◌≡◌, ◌≢◌, ◌⊎◌, ◌<◌, ℕ, ◌∷◌, [], List, Option, Some, is_some, false}
+use Rattle.bits_core.specs.ByteList.{IsBytes}
+use Rattle.service_table.specs.declared.class.Class.TheVariants as class
+use Rattle.service_table.specs.declared.service.Service.{Service}
+use Rattle.service_table.specs.declared.service.Service.TheVariants as service
+use Rattle.service_table.specs.declared.state.State.TheVariants as state
+use Rattle.service_table.specs.declared.status.Status.{Status}
+use Rattle.service_table.specs.declared.status.Status.TheVariants as status
+use Rattle.service_table.specs.Numbers.{service_numbered}
+use Rattle.service_table.specs.Services.{class_of}
+use Rattle.ssp_slots.specs.Slots.{empty_slot}
+use Rattle.outside.specs.declared.traits.Sample.{Sample}
+use Rattle.module_frames.specs.CommandFrames.{CommandFrame}
+use Rattle.module_frames.specs.Requests as request
+use Rattle.engine_core.specs.Calls.{Calls}
+use Rattle.crypto_services.specs.AtSlots.{slot_at}
+use Rattle.state_model.specs.MachineState.{MachineState, IsWellFormed, state_of}
+use Rattle.state_model.specs.Step.{step, request_at}
+
+-- a step for a command whose body is bytes keeps the rules
+abbrev pub StepsKeepTheRules : {V : Type 0} → Calls V → Type 0
+StepsKeepTheRules {V} calls = (s : MachineState V) (events : List Sample) (command : CommandFrame) → IsBytes command.body → IsWellFormed s → IsWellFormed (step calls s events command).machine
+
+-- data is given in a role alone, by a service of class data alone, and only where it was done
+abbrev pub DataNeedsARole : {V : Type 0} → Calls V → Type 0
+DataNeedsARole {V} calls = (s : MachineState V) (events : List Sample) (command : CommandFrame) → (step calls s events command).payload ≢ []
+    → ((step calls s events command).status ≡ status.Ok) × ((state_of s ≡ state.Officer) ⊎ (state_of s ≡ state.User))
+    × ((found : Service) × (service_numbered command.service ≡ Some found) × (class_of found ≡ class.Payload))
+
+-- ZeroiseAll or Reset that was done leaves all sixteen slots empty, which is zero in each field and byte
+abbrev pub ZeroisingEmptiesAll : {V : Type 0} → Calls V → Type 0
+ZeroisingEmptiesAll {V} calls = (s : MachineState V) (events : List Sample) (command : CommandFrame)
+    → (service_numbered command.service ≡ Some service.ZeroiseAll) ⊎ (service_numbered command.service ≡ Some service.Reset)
+    → (step calls s events command).status ≡ status.Ok → (id : ℕ) → slot_at (step calls s events command).machine.slots id ≡ empty_slot
+
+-- Zeroise that was done leaves its slot empty, and no other changed
+abbrev pub ZeroisingEmptiesOne : {V : Type 0} → Calls V → Type 0
+ZeroisingEmptiesOne {V} calls = (s : MachineState V) (events : List Sample) (command : CommandFrame) (slot : ℕ)
+    → request_at (service_numbered command.service) command.body ≡ Some (request.Zeroise slot) → (step calls s events command).status ≡ status.Ok
+    → (slot_at (step calls s events command).machine.slots slot ≡ empty_slot)
+    × ((other : ℕ) → other ≢ slot → slot_at (step calls s events command).machine.slots other ≡ slot_at s.slots other)
+
+-- the refusals that come before anything is done
+abbrev pub IsRefusedAtOnce : Status → Type 0
+IsRefusedAtOnce why = (why ≡ status.UnknownService) ⊎ ((why ≡ status.NotInState) ⊎ (why ≡ status.BadBody))
+
+-- such a refusal changes nothing at all, takes no event of noise, and tells nothing
+abbrev pub RefusalsChangeNothing : {V : Type 0} → Calls V → Type 0
+RefusalsChangeNothing {V} calls = (s : MachineState V) (events : List Sample) (command : CommandFrame) → IsRefusedAtOnce (step calls s events command).status
+    → ((step calls s events command).machine ≡ s) × ((step calls s events command).left ≡ events) × ((step calls s events command).payload ≡ [])
+
+-- the refusals of a slot
+abbrev pub IsRefusedBySlot : Status → Type 0
+IsRefusedBySlot why = (why ≡ status.EmptySlot) ⊎ ((why ≡ status.WrongKind) ⊎ ((why ≡ status.WrongDomain) ⊎ ((why ≡ status.Spent) ⊎ (why ≡ status.OccupiedSlot))))
+
+-- a refusal by a slot changes no slot
+abbrev pub RefusalsChangeNoSlot : {V : Type 0} → Calls V → Type 0
+RefusalsChangeNoSlot {V} calls = (s : MachineState V) (events : List Sample) (command : CommandFrame) → IsRefusedBySlot (step calls s events command).status
+    → (step calls s events command).machine.slots ≡ s.slots

@@ -1,0 +1,102 @@
+-- What the services do that are no cryptographic ones. These rules are this project's own; ISO/IEC 19790:2012, 7.4.3 and 7.9.7, ask for
+-- such services.
+use Rattle.std.specs.Prelude.{ℕ, ◌+◌, nat_le, List, [], Option, Some, None, length, if◌then◌else◌}
+use Rattle.service_table.specs.declared.status.Status.{Status}
+use Rattle.service_table.specs.declared.status.Status.TheVariants as status
+use Rattle.module_frames.specs.declared.public_state.PublicState.{PublicState}
+use Rattle.module_frames.specs.PublicState.{no_block}
+use Rattle.module_frames.specs.PublicEffects.{powered_on, tests_requested, test_done, role_selected, was_reset, entry_begun, entry_ended}
+use Rattle.ssp_slots.specs.Slots.{empty_slot}
+use Rattle.outside.specs.declared.traits.Sample.{Sample}
+use Rattle.engine_core.specs.Calls.{Calls}
+use Rattle.crypto_services.specs.AtSlots.{SlotsResult, on_slot, on_no_slot, refusal, with_slot_at}
+use Rattle.state_model.specs.declared.entry.Entry.{Entry}
+use Rattle.state_model.specs.declared.entry.Target.{Target}
+use Rattle.state_model.specs.Entries.{no_entry, begun_entry, with_piece, entry_length}
+use Rattle.state_model.specs.Commit.{commit_at, entered}
+use Rattle.state_model.specs.MachineState.{Shared, MachineState, no_slots}
+
+-- what a step leaves, the events of noise that are left among it, and what it answers
+pub record Stepped (V : Type 0) : Type 0 where
+  pub machine : MachineState V
+  pub status : Status
+  pub block : List ℕ
+  pub payload : List ℕ
+  pub left : List Sample
+
+-- an answer without a payload
+abbrev pub answered : {V : Type 0} → MachineState V → Status → List ℕ → List Sample → Stepped V
+answered after why block events = record { machine = after; status = why; block = block; payload = []; left = events }
+
+-- a refusal changes nothing and tells nothing but its reason
+abbrev pub refused : {V : Type 0} → MachineState V → Status → List Sample → Stepped V
+refused s why events = answered s why no_block events
+
+-- it was done
+abbrev pub done : {V : Type 0} → MachineState V → List ℕ → List Sample → Stepped V
+done after block events = answered after status.Ok block events
+
+abbrev pub with_public : {V : Type 0} → MachineState V → PublicState → MachineState V
+with_public s public = record s { shared = record s.shared { public = public } }
+
+-- tests are due anew: none of those that passed counts
+abbrev pub tests_forgotten : {V : Type 0} → Shared V → PublicState → Shared V
+tests_forgotten shared public = record shared { public = public; tests_passed = 0 }
+
+-- PowerOn
+abbrev pub power_on : {V : Type 0} → MachineState V → ℕ → MachineState V
+power_on s period = with_public s (powered_on period s.shared.public)
+
+-- RequestTests
+abbrev pub request_tests : {V : Type 0} → MachineState V → MachineState V
+request_tests s = record s { shared = tests_forgotten s.shared (tests_requested s.shared.public) }
+
+-- TestStep. No step makes a test yet.
+abbrev pub test_step : {V : Type 0} → MachineState V → MachineState V
+test_step s = with_public s (test_done s.shared.public)
+
+-- SelectRole
+abbrev pub select_role : {V : Type 0} → MachineState V → ℕ → MachineState V
+select_role s role = with_public s (role_selected role s.shared.public)
+
+-- Reset: all slots are empty, nothing is entered, and no test or sample counts any more; the period and the engine stay
+abbrev pub reset : {V : Type 0} → MachineState V → MachineState V
+reset s = record { shared = record (tests_forgotten s.shared (was_reset s.shared.public)) { samples = [] }; slots = no_slots; entry = no_entry }
+
+-- EntryBegin: a parameter is entered for this target. The slot isn't looked at.
+abbrev pub entry_begin : {V : Type 0} → MachineState V → Target → MachineState V
+entry_begin s target = record (with_public s (entry_begun s.shared.public)) { entry = begun_entry target }
+
+-- EntryBytes: the piece is appended. Where it would pass the parameter's length, nothing changes.
+abbrev pub entry_bytes : {V : Type 0} → MachineState V → List ℕ → List Sample → Stepped V
+entry_bytes s piece events =
+    if nat_le (s.entry.filled + length piece) (entry_length s.entry)
+    then done (record s { entry = with_piece s.entry piece }) no_block events
+    else refused s status.BadLength events
+
+-- An entry ends: it is wiped, and the officer goes on.
+abbrev pub entry_over : {V : Type 0} → MachineState V → MachineState V
+entry_over s = record (with_public s (entry_ended s.shared.public)) { entry = no_entry }
+
+-- what a commit makes of engine and slots; an entry without a target, which there is none of, has no length that is right
+abbrev pub committed : {V : Type 0} → Calls V → MachineState V → Option Target → List ℕ → SlotsResult V
+committed calls s None check = on_no_slot s.shared.engine s.slots (refusal status.BadLength)
+committed calls s (Some target) check = on_slot s.slots target.slot (commit_at calls s.shared.engine target (entered s.entry) check)
+
+-- engine and slots are those that a service made
+abbrev pub with_slots : {V : Type 0} → MachineState V → V → List _ → MachineState V
+with_slots s engine slots = record s { shared = record s.shared { engine = engine }; slots = slots }
+
+-- EntryCommit: whatever becomes of it, the entry is over
+abbrev pub entry_commit : {V : Type 0} → Calls V → MachineState V → List ℕ → List Sample → Stepped V
+entry_commit calls s check events =
+    let result = committed calls s s.entry.target check in
+    answered (entry_over (with_slots s result.engine result.slots)) result.answer.status no_block events
+
+-- Zeroise: the slot is empty, and no other changes
+abbrev pub zeroise : {V : Type 0} → MachineState V → ℕ → MachineState V
+zeroise s slot = record s { slots = with_slot_at s.slots slot empty_slot }
+
+-- ZeroiseAll: all slots are empty
+abbrev pub zeroise_all : {V : Type 0} → MachineState V → MachineState V
+zeroise_all s = record s { slots = no_slots }

@@ -1,0 +1,14 @@
+-- What the fields of a module show: counters where the machine keeps the samples of noise that they count.
+use Rattle.std.specs.Prelude.{ℕ}
+use Rattle.noise_health.specs.declared.health.Health.{Health}
+use Rattle.ssp_slots.specs.Slots.{Contents}
+use Rattle.module_frames.specs.declared.public_state.PublicState.{PublicState}
+use Rattle.state_model.specs.declared.entry.Entry.{Entry}
+
+pub record ModuleView (V : Type 0) : Type 0 where
+  pub public : PublicState
+  pub tests_passed : ℕ
+  pub engine : V
+  pub health : Health
+  pub vault : Contents
+  pub entry : Entry
