@@ -1,80 +1,109 @@
 -- A step keeps the rules.
-use Rattle.std.proofs.Common.{◌≡◌, Bool, true, false, List, ℕ, Option, Some, None, refl, ap, ◌∙◌, length, arith, if◌then◌else◌}
+use Rattle.std.proofs.Common.{◌≡◌, Bool, true, false, List, [], ℕ, zero, suc, Option, Some, None, refl, ap, ◌∙◌, length, arith, take, if◌then◌else◌}
+use Rattle.noise_health.specs.Signals.{health_signal}
 use Rattle.std.specs.Prelude.{IfSome}
 use Rattle.bits_core.specs.ByteList.{IsBytes}
 use Rattle.bits_core.specs.declared.parameter.Kind.TheVariants as kind
 use Rattle.service_table.specs.declared.service.Service.{Service}
 use Rattle.service_table.specs.declared.service.Service.TheVariants as service
+use Rattle.service_table.specs.declared.state.State.{State}
 use Rattle.service_table.specs.declared.status.Status.TheVariants as status
 use Rattle.service_table.specs.Numbers.{service_numbered}
 use Rattle.service_table.specs.Services.{is_permitted, is_approved}
-use Rattle.module_frames.specs.Requests.{Asked, IsInRange, request_of}
-use Rattle.module_frames.specs.Requests as asking
+use Rattle.ssp_slots.specs.declared.slot.Slot.{Slot}
+use Rattle.ssp_slots.specs.Slots.{AreWellFormed}
 use Rattle.ssp_slots.proofs.WellFormedSlots.{AreWellFormed-empty}
+use Rattle.outside.specs.declared.traits.Sample.{Sample}
+use Rattle.module_frames.specs.Requests.{RequestValue, CryptographicRequest, IsInRange, IsCryptographicInRange, request_of, cryptographic_service_for}
+use Rattle.module_frames.specs.Requests as request
 use Rattle.engine_core.specs.Calls.{Calls}
-use Rattle.crypto_services.specs.Core.{hash_served, mac_served, mac_verify_served}
-use Rattle.state_model.specs.Asking.{MayBeAsked}
-use Rattle.state_model.specs.MachineState.{MachineState, IsWellFormed, initial_state}
-use Rattle.state_model.specs.Step.{step, asked, refused, ordered, done_for, StepsKeepTheRules}
+use Rattle.crypto_services.specs.AtSlots.{slot_at}
+use Rattle.crypto_services.specs.Services.{mac_at, mac_verify_at}
+use Rattle.state_model.specs.Permission.{IsPermittedIn}
+use Rattle.state_model.specs.MachineState.{MachineState, IsWellFormed, initial_state, state_of}
+use Rattle.state_model.specs.Management.{refused}
+use Rattle.state_model.specs.Cryptographic.{service_at}
+use Rattle.state_model.specs.Step.{step, dispatch, dispatch_request, perform}
+use Rattle.state_model.specs.Laws.{StepsKeepTheRules}
 use Rattle.state_model.proofs.Permitted.{off_for_power_on, testing_for_test_step, officer_for_entry_begin, entering_for_entry_bytes, hash_for_mac}
-use Rattle.state_model.proofs.Rules.{power_on_kept, request_tests_kept, test_step_kept, select_role_kept, reset_kept, entry_begin_kept, entry_bytes_rules, entry_commit_kept, entry_abort_kept, zeroise_kept, zeroise_all_kept, served_kept, sourced_kept, spent_kept}
-use Rattle.state_model.proofs.Reading.{HasBytes, IsRead, request_read}
+use Rattle.state_model.proofs.Rules.{power_on_kept, request_tests_kept, test_step_kept, select_role_kept, reset_kept, entry_begin_kept, entry_bytes_rules, entry_commit_kept, entry_over_kept, zeroise_kept, zeroise_all_kept, on_slot_kept, on_source_kept, cryptographic_kept}
+use Rattle.state_model.proofs.RequestReading.{IsOfBytes, IsRead, request_read}
 
 pub begins : {V : Type 0} (engine : V) → IsWellFormed (initial_state engine)
 begins engine = record {
-  period = omega arith;
-  counting = λ some. some;
-  uncounted = λ none. refl;
-  unpowered = λ e. refl;
-  testing = λ e. cc;
-  settled = λ _. (refl, refl);
+  public = record {
+    period = omega arith;
+    counting = λ _ some. some;
+    uncounted = λ none. refl;
+    unpowered = λ e. refl;
+    testing = λ e. cc;
+    settled = λ _. (refl, refl);
+    faultless = λ _. refl;
+  };
+  healthy = λ _ n. no_signal n;
   slots = AreWellFormed-empty;
   entering = λ e. cc;
   wiped = λ _. refl;
 }
+  where
+    no_signal : (n : ℕ) → health_signal (take n []) ≡ None
+    no_signal zero = refl
+    no_signal (suc n) = refl
+
+-- what a cryptographic service leaves of the slots
+pub service_kept : {V : Type 0} (calls : Calls V) (engine : V) (drawn : List ℕ) (slots : List Slot) (what : CryptographicRequest) → IsCryptographicInRange what
+    → AreWellFormed (record { slots = slots }) → AreWellFormed (record { slots = (service_at calls engine drawn slots what).slots })
+service_kept calls engine drawn slots (request.Hash alg text) range are = are
+service_kept calls engine drawn slots (request.Mac slot alg mac_length text) range are =
+    on_slot_kept slots slot (mac_at calls engine alg mac_length text) are (on_source_kept engine (slot_at slots slot) kind.Mac (is_approved service.Mac mac_length) _ _ (are.each slot range.0))
+service_kept calls engine drawn slots (request.MacVerify slot alg tag text) range are =
+    on_slot_kept slots slot (mac_verify_at calls engine alg tag text) are
+    (on_source_kept engine (slot_at slots slot) kind.Mac (is_approved service.MacVerify (length tag)) _ _ (are.each slot range.0))
+
+-- a cryptographic service is permitted in a role
+pub hash_for_cryptographic : (what : CryptographicRequest) (found : State) → is_permitted (cryptographic_service_for what) found ≡ true → is_permitted service.Hash found ≡ true
+hash_for_cryptographic (request.Hash alg text) found allowed = allowed
+hash_for_cryptographic (request.Mac slot alg mac_length text) found allowed = hash_for_mac found allowed
+hash_for_cryptographic (request.MacVerify slot alg tag text) found allowed = hash_for_mac found allowed
 
 -- what is done for a request keeps the rules
-done_kept : {V : Type 0} (calls : Calls V) (s : MachineState V) (what : Asked) → IsWellFormed s → IsInRange what → HasBytes what → MayBeAsked what s.state
-    → IsWellFormed (done_for calls s what).machine
-done_kept calls s (asking.PowerOn period) rules range bytes allowed = power_on_kept s period rules (off_for_power_on s.state allowed) range
-done_kept calls s asking.TestStep rules range bytes allowed = test_step_kept s rules (testing_for_test_step s.state allowed)
-done_kept calls s asking.RequestTests rules range bytes allowed = request_tests_kept s rules allowed
-done_kept calls s asking.ShowStatus rules range bytes allowed = rules
-done_kept calls s asking.ShowVersion rules range bytes allowed = rules
-done_kept calls s (asking.SelectRole role) rules range bytes allowed = select_role_kept s role rules allowed
-done_kept calls s asking.Reset rules range bytes allowed = reset_kept s rules
-done_kept calls s (asking.EntryBegin slot header long) rules range bytes allowed =
-    entry_begin_kept s (record { slot = slot; header = header; length = long }) rules (officer_for_entry_begin s.state allowed) range.0 range.1 range.2
-done_kept calls s (asking.EntryBytes piece) rules range bytes allowed = entry_bytes_rules s piece bytes rules (entering_for_entry_bytes s.state allowed)
-done_kept calls s (asking.EntryCommit check) rules range bytes allowed = entry_commit_kept calls s check rules (entering_for_entry_bytes s.state allowed)
-done_kept calls s asking.EntryAbort rules range bytes allowed = entry_abort_kept s rules (entering_for_entry_bytes s.state allowed)
-done_kept calls s (asking.Zeroise slot) rules range bytes allowed = zeroise_kept s slot rules
-done_kept calls s asking.ZeroiseAll rules range bytes allowed = zeroise_all_kept s rules
-done_kept calls s (asking.ShowSlot slot) rules range bytes allowed = rules
-done_kept calls s (asking.Hash alg text) rules range bytes allowed = served_kept s (hash_served calls s.core alg text) rules allowed rules.slots
-done_kept calls s (asking.Mac slot alg mac_length text) rules range bytes allowed =
-    served_kept s (mac_served calls s.core slot alg mac_length text) rules (hash_for_mac s.state allowed)
-    (sourced_kept s.core slot kind.Mac (is_approved service.Mac mac_length) _ rules.slots (spent_kept s.core.vault slot range.0 rules.slots))
-done_kept calls s (asking.MacVerify slot alg tag text) rules range bytes allowed =
-    served_kept s (mac_verify_served calls s.core slot alg tag text) rules (hash_for_mac s.state allowed)
-    (sourced_kept s.core slot kind.Mac (is_approved service.MacVerify (length tag)) _ rules.slots (spent_kept s.core.vault slot range.0 rules.slots))
+performed_kept : {V : Type 0} (calls : Calls V) (s : MachineState V) (events : List Sample) (what : RequestValue) → IsWellFormed s → IsInRange what → IsOfBytes what → IsPermittedIn what (state_of s)
+    → IsWellFormed (perform calls s events what).machine
+performed_kept calls s events (request.PowerOn period) rules range bytes allowed = power_on_kept s period rules (off_for_power_on (state_of s) allowed) range
+performed_kept calls s events request.TestStep rules range bytes allowed = test_step_kept s rules (testing_for_test_step (state_of s) allowed)
+performed_kept calls s events request.RequestTests rules range bytes allowed = request_tests_kept s rules allowed
+performed_kept calls s events request.ShowStatus rules range bytes allowed = rules
+performed_kept calls s events request.ShowVersion rules range bytes allowed = rules
+performed_kept calls s events (request.SelectRole role) rules range bytes allowed = select_role_kept s role rules allowed
+performed_kept calls s events request.Reset rules range bytes allowed = reset_kept s rules
+performed_kept calls s events (request.EntryBegin slot header long) rules range bytes allowed =
+    entry_begin_kept s (record { slot = slot; header = header; length = long }) rules (officer_for_entry_begin (state_of s) allowed) range.0 range.1 bytes range.2
+performed_kept calls s events (request.EntryBytes piece) rules range bytes allowed = entry_bytes_rules s piece events bytes rules (entering_for_entry_bytes (state_of s) allowed)
+performed_kept calls s events (request.EntryCommit check) rules range bytes allowed = entry_commit_kept calls s check events rules (entering_for_entry_bytes (state_of s) allowed)
+performed_kept calls s events request.EntryAbort rules range bytes allowed = entry_over_kept s rules (entering_for_entry_bytes (state_of s) allowed)
+performed_kept calls s events (request.Zeroise slot) rules range bytes allowed = zeroise_kept s slot rules
+performed_kept calls s events request.ZeroiseAll rules range bytes allowed = zeroise_all_kept s rules
+performed_kept calls s events (request.ShowSlot slot) rules range bytes allowed = rules
+performed_kept calls s events (request.Cryptographic what) rules range bytes allowed =
+    let result = service_at calls s.shared.engine [] s.slots what in
+    cryptographic_kept s result.engine result.slots rules (hash_for_cryptographic what (state_of s) allowed) (service_kept calls s.shared.engine [] s.slots what range rules.slots)
 
-asked_kept : {V : Type 0} (calls : Calls V) (s : MachineState V) (found : Service) (body : List ℕ) (read : Option Asked) → IfSome read (IsRead found body) → IsBytes body
-    → IsWellFormed s → is_permitted found s.state ≡ true → IsWellFormed (asked calls s read).machine
-asked_kept calls s found body None is_read are_bytes rules allowed = rules
-asked_kept calls s found body (Some what) is_read are_bytes rules allowed =
-    done_kept calls s what rules is_read.0 (is_read.2 are_bytes) (ap (λ f. is_permitted f s.state) is_read.1 ∙ allowed)
+requested_kept : {V : Type 0} (calls : Calls V) (s : MachineState V) (events : List Sample) (found : Service) (body : List ℕ) (read : Option RequestValue) → IfSome read (IsRead found body) → IsBytes body
+    → IsWellFormed s → is_permitted found (state_of s) ≡ true → IsWellFormed (dispatch_request calls s events read).machine
+requested_kept calls s events found body None is_read are_bytes rules allowed = rules
+requested_kept calls s events found body (Some what) is_read are_bytes rules allowed =
+    performed_kept calls s events what rules is_read.0 (is_read.2 are_bytes) (ap (λ f. is_permitted f (state_of s)) is_read.1 ∙ allowed)
 
-choice_kept : {V : Type 0} (calls : Calls V) (s : MachineState V) (found : Service) (allowed : Bool) (body : List ℕ) → is_permitted found s.state ≡ allowed → IsBytes body
-    → IsWellFormed s → IsWellFormed (if allowed then asked calls s (request_of found body) else refused s status.NotInState).machine
-choice_kept calls s found true body is are_bytes rules = asked_kept calls s found body (request_of found body) (request_read found body) are_bytes rules is
-choice_kept calls s found false body is are_bytes rules = rules
+choice_kept : {V : Type 0} (calls : Calls V) (s : MachineState V) (events : List Sample) (found : Service) (allowed : Bool) (body : List ℕ) → is_permitted found (state_of s) ≡ allowed → IsBytes body
+    → IsWellFormed s → IsWellFormed (if allowed then dispatch_request calls s events (request_of found body) else refused s status.NotInState events).machine
+choice_kept calls s events found true body is are_bytes rules = requested_kept calls s events found body (request_of found body) (request_read found body) are_bytes rules is
+choice_kept calls s events found false body is are_bytes rules = rules
 
-ordered_kept : {V : Type 0} (calls : Calls V) (s : MachineState V) (found : Option Service) (body : List ℕ) → IsBytes body → IsWellFormed s
-    → IsWellFormed (ordered calls s found body).machine
-ordered_kept calls s None body are_bytes rules = rules
-ordered_kept calls s (Some found) body are_bytes rules = choice_kept calls s found (is_permitted found s.state) body refl are_bytes rules
+dispatched_kept : {V : Type 0} (calls : Calls V) (s : MachineState V) (events : List Sample) (found : Option Service) (body : List ℕ) → IsBytes body → IsWellFormed s
+    → IsWellFormed (dispatch calls s events found body).machine
+dispatched_kept calls s events None body are_bytes rules = rules
+dispatched_kept calls s events (Some found) body are_bytes rules = choice_kept calls s events found (is_permitted found (state_of s)) body refl are_bytes rules
 
 pub keeps : {V : Type 0} (calls : Calls V) → StepsKeepTheRules calls
 unfolding step
-keeps calls s command are_bytes rules = ordered_kept calls s (service_numbered command.service) command.body are_bytes rules
+keeps calls s events command are_bytes rules = dispatched_kept calls s events (service_numbered command.service) command.body are_bytes rules

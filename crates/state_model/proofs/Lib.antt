@@ -1,7 +1,9 @@
 pub mod Permitted
+pub mod PublicRules
+pub mod EntryRules
 pub mod Rules
-pub mod Reading
+pub mod Representing
 pub mod Serving
-pub mod Keeping
-pub mod DataInRoles
 pub mod Order
+pub mod RequestReading
+pub mod Keeping

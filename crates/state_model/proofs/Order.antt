@@ -1,42 +1,38 @@
--- The one order, a refusal at a time.
+-- The order of refusals, one at a time.
 use Rattle.std.proofs.Common.{◌≡◌, ℕ, List, true, false, Some, None, [], ap, refl}
 use Rattle.service_table.specs.declared.service.Service.{Service}
 use Rattle.service_table.specs.declared.status.Status.{Status}
 use Rattle.service_table.specs.declared.status.Status.TheVariants as status
 use Rattle.service_table.specs.Numbers.{service_numbered}
 use Rattle.service_table.specs.Services.{is_permitted}
+use Rattle.outside.specs.declared.traits.Sample.{Sample}
 use Rattle.module_frames.specs.Requests.{request_of}
 use Rattle.module_frames.specs.CommandFrames.{CommandFrame}
 use Rattle.module_frames.specs.PublicState.{no_block}
 use Rattle.engine_core.specs.Calls.{Calls}
-use Rattle.crypto_services.specs.declared.outcome.Outcome.{Outcome}
-use Rattle.state_model.specs.Kept.{Kept}
-use Rattle.state_model.specs.MachineState.{MachineState}
-use Rattle.state_model.specs.Step.{step, asked, refused}
-use Rattle.state_model.specs.Represents.{Represents, Leaves}
+use Rattle.state_model.specs.ModuleView.{ModuleView}
+use Rattle.state_model.specs.MachineState.{MachineState, state_of}
+use Rattle.state_model.specs.Management.{refused}
+use Rattle.state_model.specs.Step.{step, dispatch_request}
+use Rattle.state_model.specs.Represents.{Represents, IsServiceResult}
 
-pub step_unknown : {V : Type 0} (calls : Calls V) (s : MachineState V) (command : CommandFrame) → service_numbered command.service ≡ None → step calls s command ≡ refused s status.UnknownService
+pub step_unknown : {V : Type 0} (calls : Calls V) (s : MachineState V) (events : List Sample) (command : CommandFrame) → service_numbered command.service ≡ None
+    → step calls s events command ≡ refused s status.UnknownService events
 unfolding step
-step_unknown calls s command none = rw none refl
+step_unknown calls s events command none = rw none refl
 
-pub step_not_permitted : {V : Type 0} (calls : Calls V) (s : MachineState V) (command : CommandFrame) (found : Service) → service_numbered command.service ≡ Some found
-    → is_permitted found s.state ≡ false → step calls s command ≡ refused s status.NotInState
+pub step_not_permitted : {V : Type 0} (calls : Calls V) (s : MachineState V) (events : List Sample) (command : CommandFrame) (found : Service) → service_numbered command.service ≡ Some found
+    → is_permitted found (state_of s) ≡ false → step calls s events command ≡ refused s status.NotInState events
 unfolding step
-step_not_permitted calls s command found known refusal = rw (known, refusal) refl
+step_not_permitted calls s events command found known refusal = rw (known, refusal) refl
 
-pub step_asked : {V : Type 0} (calls : Calls V) (s : MachineState V) (command : CommandFrame) (found : Service) → service_numbered command.service ≡ Some found
-    → is_permitted found s.state ≡ true → step calls s command ≡ asked calls s (request_of found command.body)
+pub step_requested : {V : Type 0} (calls : Calls V) (s : MachineState V) (events : List Sample) (command : CommandFrame) (found : Service) → service_numbered command.service ≡ Some found
+    → is_permitted found (state_of s) ≡ true → step calls s events command ≡ dispatch_request calls s events (request_of found command.body)
 unfolding step
-step_asked calls s command found known leave = rw (known, leave) refl
+step_requested calls s events command found known leave = rw (known, leave) refl
 
 -- a refusal leaves the module, an empty block and no payload
-pub refused_leaves : {V : Type 0} (m : Kept V) (s : MachineState V) (why : Status) (outcome : Outcome) (block payload : List ℕ) → Represents m s
-    → outcome ≡ record { status = why; code = 0; approved = false } → block ≡ no_block → payload ≡ [] → Leaves (refused s why) m outcome block payload
-refused_leaves m s why outcome block payload represents is none empty = record {
-  represents = represents;
-  same_status = ap (λ (o : Outcome). o.status) is;
-  same_indicator = ap (λ (o : Outcome). o.approved) is;
-  no_code = ap (λ (o : Outcome). o.code) is;
-  same_block = none;
-  same_payload = empty;
-}
+pub refused_leaves : {V : Type 0} (m : ModuleView V) (s : MachineState V) (events : List Sample) (why : Status) (block payload : List ℕ) → Represents m s
+    → block ≡ no_block → payload ≡ [] → IsServiceResult (refused s why events) m why block payload
+refused_leaves m s events why block payload represents none empty =
+    record { represents = represents; same_status = refl; same_block = none; same_payload = empty }

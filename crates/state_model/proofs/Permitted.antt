@@ -4,8 +4,8 @@ use Rattle.service_table.specs.declared.service.Service.TheVariants as service
 use Rattle.service_table.specs.declared.state.State.{State}
 use Rattle.service_table.specs.declared.state.State.TheVariants as state
 use Rattle.service_table.specs.Services.{is_permitted}
+use Rattle.module_frames.specs.PublicEffects.{return_from}
 use Rattle.state_model.specs.MachineState.{IsReturn}
-use Rattle.state_model.specs.Step.{return_from}
 
 pub off_for_power_on : (found : State) → is_permitted service.PowerOn found ≡ true → found ≡ state.Off
 off_for_power_on state.Off h = refl
@@ -29,13 +29,20 @@ pub not_entering_for_request_tests : (found : State) → is_permitted service.Re
 not_entering_for_request_tests state.Entry h = λ e. cc
 not_entering_for_request_tests _ h = λ e. cc
 
-pub not_testing_for_select_role : (found : State) → is_permitted service.SelectRole found ≡ true → found ≢ state.SelfTest
-not_testing_for_select_role state.SelfTest h = λ e. cc
-not_testing_for_select_role _ h = λ e. cc
+pub not_failed_for_request_tests : (found : State) → is_permitted service.RequestTests found ≡ true → found ≢ state.Error
+not_failed_for_request_tests state.Error h = λ e. cc
+not_failed_for_request_tests _ h = λ e. cc
 
-pub not_entering_for_select_role : (found : State) → is_permitted service.SelectRole found ≡ true → found ≢ state.Entry
-not_entering_for_select_role state.Entry h = λ e. cc
-not_entering_for_select_role _ h = λ e. cc
+-- a state of use: no role, or one of the two
+pub return_for_select_role : (found : State) → is_permitted service.SelectRole found ≡ true → IsReturn found
+return_for_select_role state.Approved h = tt
+return_for_select_role state.Officer h = tt
+return_for_select_role state.User h = tt
+return_for_select_role state.Off h = cc
+return_for_select_role state.Init h = cc
+return_for_select_role state.SelfTest h = cc
+return_for_select_role state.Entry h = cc
+return_for_select_role state.Error h = cc
 
 pub officer_for_entry_begin : (found : State) → is_permitted service.EntryBegin found ≡ true → found ≡ state.Officer
 officer_for_entry_begin state.Officer h = refl
@@ -45,6 +52,11 @@ officer_for_entry_begin _ h = cc
 pub entering_for_entry_bytes : (found : State) → is_permitted service.EntryBytes found ≡ true → found ≡ state.Entry
 entering_for_entry_bytes state.Entry h = refl
 entering_for_entry_bytes _ h = cc
+
+-- zeroising is permitted to the officer
+pub officer_for_zeroise : (found : State) → is_permitted service.Zeroise found ≡ true → found ≡ state.Officer
+officer_for_zeroise state.Officer h = refl
+officer_for_zeroise _ h = cc
 
 -- so are the digest and the display of a slot, in a role
 pub role_for_hash : (found : State) → is_permitted service.Hash found ≡ true → (found ≡ state.Officer) ⊎ (found ≡ state.User)
@@ -68,6 +80,10 @@ return_is_settled _ h = λ e. cc
 pub return_is_powered : (found : State) → IsReturn found → found ≢ state.Off
 return_is_powered state.Off h = absurd h
 return_is_powered _ h = λ e. cc
+
+pub return_is_faultless : (found : State) → IsReturn found → found ≢ state.Error
+return_is_faultless state.Error h = absurd h
+return_is_faultless _ h = λ e. cc
 
 -- a role is a state to which tests return
 pub return_for_hash : (found : State) → is_permitted service.Hash found ≡ true → IsReturn found

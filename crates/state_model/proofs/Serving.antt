@@ -1,47 +1,57 @@
--- What a service leaves.
-use Rattle.std.proofs.Common.{◌≡◌, false, List, [], ℕ, refl, sym, ap, subst, ◌∙◌}
+-- A cryptographic service, between what comes before the slots and what comes after them.
+use Rattle.std.proofs.Common.{◌≡◌, ◌≢◌, ℕ, List, [], Bool, true, false, refl, sym, ap, subst, ◌∙◌, if◌then◌else◌}
+use Rattle.noise_health.specs.declared.health.Health.{Health}
+use Rattle.noise_health.specs.Counts.{Counts}
+use Rattle.service_table.specs.declared.service.Service.TheVariants as service
+use Rattle.service_table.specs.declared.state.State.TheVariants as state
 use Rattle.service_table.specs.declared.status.Status.{Status}
-use Rattle.module_frames.specs.PublicState.{no_block}
-use Rattle.ssp_slots.specs.Slots.{AreWellFormed}
-use Rattle.crypto_services.specs.declared.outcome.Outcome.{Outcome}
-use Rattle.crypto_services.specs.declared.parts.Parts.{Parts}
-use Rattle.crypto_services.specs.Core.{Core, Served}
-use Rattle.crypto_services.specs.Serves.{core_of, Serves}
-use Rattle.state_model.specs.Kept.{Kept}
-use Rattle.state_model.specs.MachineState.{MachineState}
-use Rattle.state_model.specs.Represents.{Represents, Leaves, LeavesUnused}
-use Rattle.state_model.specs.Step.{Stepped, used, served}
-use Rattle.state_model.proofs.Rules.{core_kept}
+use Rattle.service_table.specs.Services.{is_permitted}
+use Rattle.ssp_slots.specs.declared.slot.Slot.{Slot}
+use Rattle.ssp_slots.specs.Slots.{Contents, AreWellFormed}
+use Rattle.module_frames.specs.declared.public_state.PublicState.{PublicState}
+use Rattle.module_frames.specs.PublicEffects.{use_counted, is_period_over, sent_to_tests}
+use Rattle.crypto_services.specs.AtSlots.{SlotsResult}
+use Rattle.state_model.specs.ModuleView.{ModuleView}
+use Rattle.state_model.specs.MachineState.{MachineState, Shared, IsWellFormed}
+use Rattle.state_model.specs.Cryptographic.{after_slots}
+use Rattle.state_model.specs.Represents.{machine_of, Represents}
+use Rattle.state_model.proofs.Permitted.{return_for_hash, return_is_faultless}
+use Rattle.state_model.proofs.Rules.{cryptographic_kept}
 
--- a cryptographic service, once its use is counted
-pub served_leaves : {V : Type 0} (s : MachineState V) (m after : Kept V) (did : Served V) (parts : Parts V) (outcome : Outcome) (payload : List ℕ)
-    → Represents m s → Serves did parts outcome payload → AreWellFormed parts.vault.slots
-    → ((t : MachineState V) → Represents (record m { core = core_of parts }) t → Represents after (used t))
-    → Leaves (served s did) after outcome no_block payload
-served_leaves {V} s m after did parts outcome payload represents serves slots counts =
-    let with_parts : MachineState V → MachineState V = λ t. record t { core = core_of parts } in
-    let with_core : Core V → MachineState V = λ c. record s { core = c } in
-    let mid : Represents (record m { core = core_of parts }) (record s { core = did.core }) = record {
-      same = ap with_parts represents.same ∙ ap with_core serves.core;
-      sound = core_kept s did.core represents.sound (subst (λ (c : Core V). AreWellFormed c.vault.slots) serves.core slots);
-    } in
-    record {
-      represents = counts (record s { core = did.core }) mid;
-      same_status = ap (λ (o : Outcome). o.status) serves.same_outcome;
-      same_indicator = ap (λ (o : Outcome). o.approved) serves.same_outcome;
-      no_code = ap (λ (o : Outcome). o.code) serves.same_outcome;
-      same_block = refl;
-      same_payload = serves.same_payload;
-    }
+-- public state and tests that passed, settled as values, are those after the slots
+settled_by : {V : Type 0} (counted : Shared V) (over : Bool)
+    → (let ended : PublicState × ℕ = if over then (sent_to_tests counted.public, 0) else (counted.public, counted.tests_passed) in
+      let settled : Shared V = record counted { public = ended.0; tests_passed = ended.1 } in
+      let after : Shared V = if over then record counted { public = sent_to_tests counted.public; tests_passed = 0 } else counted in settled ≡ after)
+settled_by counted true = refl
+settled_by counted false = refl
 
--- what is answered where no cryptographic service was done
-pub unused_leaves : {V : Type 0} (step : Stepped V) (after : Kept V) (why : Status) (outcome : Outcome) (block payload : List ℕ) → LeavesUnused step after why block
-    → outcome ≡ record { status = why; code = 0; approved = false } → payload ≡ [] → Leaves step after outcome block payload
-unused_leaves step after why outcome block payload leaves is none = record {
-  represents = leaves.represents;
-  same_status = ap (λ (o : Outcome). o.status) is ∙ leaves.same_status;
-  same_indicator = ap (λ (o : Outcome). o.approved) is ∙ sym leaves.no_indicator;
-  no_code = ap (λ (o : Outcome). o.code) is;
-  same_block = leaves.same_block;
-  same_payload = none ∙ sym leaves.no_payload;
-}
+-- what is served is the machine's step
+pub served_represents : {V : Type 0} (m : ModuleView V) (samples : List ℕ) (result : SlotsResult V) (engine : V) (vault : Contents) (health : Health) (ended : PublicState × ℕ)
+    → IsWellFormed (machine_of m samples) → is_permitted service.Hash m.public.state ≡ true → (m.public.state ≢ state.Error → Counts m.health samples)
+    → engine ≡ result.engine → vault ≡ record m.vault { slots = result.slots } → AreWellFormed vault → health ≡ m.health
+    → ended ≡ (if is_period_over (use_counted m.public) then (sent_to_tests (use_counted m.public), 0) else (use_counted m.public, m.tests_passed))
+    → (let n : ModuleView V = record { public = ended.0; tests_passed = ended.1; engine = engine; health = health; vault = vault; entry = m.entry } in
+      let t : MachineState V = machine_of m samples in
+      let counted : Shared V = record t.shared { public = use_counted t.shared.public; engine = result.engine } in
+      let u : MachineState V = record t { shared = after_slots counted; slots = result.slots } in Represents n u)
+served_represents {V} m samples result engine vault health ended rules allowed counts same_engine same_vault are same_health settled =
+    let t : MachineState V = machine_of m samples in
+    let counted : Shared V = record t.shared { public = use_counted t.shared.public; engine = result.engine } in
+    let Well : Contents → Type 0 = λ v. AreWellFormed v in
+    let with_shared : Shared V → MachineState V = λ x. record t { shared = x; slots = result.slots } in
+    let fine : Counts m.health samples = counts (return_is_faultless m.public.state (return_for_hash m.public.state allowed)) in
+    let kept = cryptographic_kept t result.engine result.slots rules allowed (subst Well same_vault are) in
+    let same = ap with_shared (settled_by counted (is_period_over (use_counted m.public))) in
+    rw (same_engine, same_vault, same_health, settled) (by_over m samples result (is_period_over (use_counted m.public)) fine kept same)
+  where
+    by_over : {V : Type 0} (m : ModuleView V) (samples : List ℕ) (result : SlotsResult V) (over : Bool) → Counts m.health samples
+        → (let t : MachineState V = machine_of m samples in
+          let counted : Shared V = record t.shared { public = use_counted t.shared.public; engine = result.engine } in
+          let after : Shared V = if over then record counted { public = sent_to_tests counted.public; tests_passed = 0 } else counted in
+          let u : MachineState V = record t { shared = after; slots = result.slots } in
+          let ended : PublicState × ℕ = if over then (sent_to_tests counted.public, 0) else (counted.public, counted.tests_passed) in
+          let n : ModuleView V = record { public = ended.0; tests_passed = ended.1; engine = result.engine; health = m.health; vault = record m.vault { slots = result.slots }; entry = m.entry } in
+          IsWellFormed u → machine_of n samples ≡ u → Represents n u)
+    by_over m samples result true fine kept same = record { same = same; well_formed = kept; counts = λ _. fine }
+    by_over m samples result false fine kept same = record { same = same; well_formed = kept; counts = λ _. fine }

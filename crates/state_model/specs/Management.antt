@@ -6,6 +6,7 @@ use Rattle.service_table.specs.declared.status.Status.TheVariants as status
 use Rattle.module_frames.specs.declared.public_state.PublicState.{PublicState}
 use Rattle.module_frames.specs.PublicState.{no_block}
 use Rattle.module_frames.specs.PublicEffects.{powered_on, tests_requested, test_done, role_selected, was_reset, entry_begun, entry_ended}
+use Rattle.ssp_slots.specs.declared.slot.Slot.{Slot}
 use Rattle.ssp_slots.specs.Slots.{empty_slot}
 use Rattle.outside.specs.declared.traits.Sample.{Sample}
 use Rattle.engine_core.specs.Calls.{Calls}
@@ -84,7 +85,7 @@ committed calls s None check = on_no_slot s.shared.engine s.slots (refusal statu
 committed calls s (Some target) check = on_slot s.slots target.slot (commit_at calls s.shared.engine target (entered s.entry) check)
 
 -- engine and slots are those that a service made
-abbrev pub with_slots : {V : Type 0} → MachineState V → V → List _ → MachineState V
+abbrev pub with_slots : {V : Type 0} → MachineState V → V → List Slot → MachineState V
 with_slots s engine slots = record s { shared = record s.shared { engine = engine }; slots = slots }
 
 -- EntryCommit: whatever becomes of it, the entry is over

@@ -8,7 +8,8 @@ use Rattle.module_frames.specs.CommandFrames.{CommandFrame}
 use Rattle.module_frames.specs.Replies.{frame_of}
 use Rattle.state_model.specs.ModuleView.{ModuleView}
 use Rattle.state_model.specs.MachineState.{MachineState, IsWellFormed}
-use Rattle.state_model.specs.Step.{Stepped, reply_to}
+use Rattle.state_model.specs.Management.{Stepped}
+use Rattle.state_model.specs.Step.{reply_to}
 
 -- the machine that a module is, with the samples that its counters count
 abbrev pub machine_of : {V : Type 0} → ModuleView V → List ℕ → MachineState V

@@ -1,7 +1,6 @@
 -- One step of the machine.
-use Rattle.std.specs.Prelude.{ℕ, List, [], ◌∷◌, Bool, false, Option, Some, None, length, if◌then◌else◌}
+use Rattle.std.specs.Prelude.{ℕ, List, Bool, false, Option, Some, None, if◌then◌else◌}
 use Rattle.service_table.specs.declared.service.Service.{Service}
-use Rattle.service_table.specs.declared.service.Service.TheVariants as service
 use Rattle.service_table.specs.declared.status.Status.{Status}
 use Rattle.service_table.specs.declared.status.Status.TheVariants as status
 use Rattle.service_table.specs.Numbers.{service_numbered}
@@ -14,13 +13,12 @@ use Rattle.module_frames.specs.Requests.{RequestValue, request_of}
 use Rattle.module_frames.specs.Requests as request
 use Rattle.module_frames.specs.PublicState.{no_block, status_block, version_block}
 use Rattle.engine_core.specs.Calls.{Calls}
-use Rattle.crypto_services.specs.AtSlots.{SlotsResult, on_slot, slot_at}
-use Rattle.crypto_services.specs.Services.{hash_result, mac_at, mac_verify_at}
-use Rattle.crypto_services.specs.Indicator.{ServiceUse, indicator}
+use Rattle.crypto_services.specs.AtSlots.{slot_at}
+use Rattle.crypto_services.specs.Indicator.{indicator}
 use Rattle.state_model.specs.SlotBlock.{slot_block}
 use Rattle.state_model.specs.MachineState.{MachineState, state_of}
 use Rattle.state_model.specs.Management.{Stepped, refused, done, power_on, request_tests, test_step, select_role, reset, entry_begin, entry_bytes, entry_commit, entry_over, zeroise, zeroise_all}
-use Rattle.state_model.specs.Cryptographic.{cryptographic_step}
+use Rattle.state_model.specs.Cryptographic.{cryptographic_step, use_of}
 
 -- what is done for a request; three services tell something in the block
 abbrev pub perform : {V : Type 0} → Calls V → MachineState V → List Sample → RequestValue → Stepped V
@@ -38,12 +36,7 @@ perform calls s events request.EntryAbort = done (entry_over s) no_block events
 perform calls s events (request.Zeroise slot) = done (zeroise s slot) no_block events
 perform calls s events request.ZeroiseAll = done (zeroise_all s) no_block events
 perform calls s events (request.ShowSlot slot) = done s (slot_block (slot_at s.slots slot)) events
-perform calls s events (request.Hash alg text) =
-    cryptographic_step s events (request.Hash alg text) (λ engine drawn slots. hash_result calls engine alg text slots)
-perform calls s events (request.Mac slot alg mac_length text) =
-    cryptographic_step s events (request.Mac slot alg mac_length text) (λ engine drawn slots. on_slot slots slot (mac_at calls engine alg mac_length text))
-perform calls s events (request.MacVerify slot alg tag text) =
-    cryptographic_step s events (request.MacVerify slot alg tag text) (λ engine drawn slots. on_slot slots slot (mac_verify_at calls engine alg tag text))
+perform calls s events (request.Cryptographic what) = cryptographic_step calls s events what
 
 -- The order of refusals: a number that is no service's, a service that isn't permitted in this state, a body that isn't of its
 -- form. The first of these that holds is the reason.
@@ -65,34 +58,24 @@ abbrev pub request_at : Option Service → List ℕ → Option RequestValue
 request_at None body = None
 request_at (Some service) body = request_of service body
 
--- a service that is no cryptographic one names no slot and has no MAC
-abbrev pub no_use : Service → ServiceUse
-no_use service = record { service = service; mac_length = 0; named = [] }
-
--- the use of a service that a request makes: the MAC's length, and the slots that it names
-abbrev pub use_of : RequestValue → ServiceUse
-use_of (request.PowerOn period) = no_use service.PowerOn
-use_of request.TestStep = no_use service.TestStep
-use_of request.RequestTests = no_use service.RequestTests
-use_of request.ShowStatus = no_use service.ShowStatus
-use_of request.ShowVersion = no_use service.ShowVersion
-use_of (request.SelectRole role) = no_use service.SelectRole
-use_of request.Reset = no_use service.Reset
-use_of (request.EntryBegin slot header long) = no_use service.EntryBegin
-use_of (request.EntryBytes piece) = no_use service.EntryBytes
-use_of (request.EntryCommit check) = no_use service.EntryCommit
-use_of request.EntryAbort = no_use service.EntryAbort
-use_of (request.Zeroise slot) = no_use service.Zeroise
-use_of request.ZeroiseAll = no_use service.ZeroiseAll
-use_of (request.ShowSlot slot) = no_use service.ShowSlot
-use_of (request.Hash alg text) = record { service = service.Hash; mac_length = 0; named = [] }
-use_of (request.Mac slot alg mac_length text) = record { service = service.Mac; mac_length = mac_length; named = slot ∷ [] }
-use_of (request.MacVerify slot alg tag text) = record { service = service.MacVerify; mac_length = length tag; named = slot ∷ [] }
-
--- The indicator of a reply, by the command, its status and the slots after it; a command that makes no request has none.
+-- The indicator of a reply, by the command, its status and the slots after it: of approved uses of cryptographic services alone.
 abbrev pub indicated : Option RequestValue → Status → List Slot → Bool
 indicated None why slots = false
-indicated (Some what) why slots = indicator (use_of what) why slots
+indicated (Some (request.PowerOn period)) why slots = false
+indicated (Some request.TestStep) why slots = false
+indicated (Some request.RequestTests) why slots = false
+indicated (Some request.ShowStatus) why slots = false
+indicated (Some request.ShowVersion) why slots = false
+indicated (Some (request.SelectRole role)) why slots = false
+indicated (Some request.Reset) why slots = false
+indicated (Some (request.EntryBegin slot header long)) why slots = false
+indicated (Some (request.EntryBytes piece)) why slots = false
+indicated (Some (request.EntryCommit check)) why slots = false
+indicated (Some request.EntryAbort) why slots = false
+indicated (Some (request.Zeroise slot)) why slots = false
+indicated (Some request.ZeroiseAll) why slots = false
+indicated (Some (request.ShowSlot slot)) why slots = false
+indicated (Some (request.Cryptographic what)) why slots = indicator (use_of what) why slots
 
 -- the reply to a command, after its step: state and error code are those after it, also where it was refused
 abbrev pub reply_to : {V : Type 0} → CommandFrame → Stepped V → ReplyFrame

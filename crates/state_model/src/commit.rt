@@ -1,13 +1,14 @@
 // The commit of an entered parameter.
-ghost use Rattle.std.specs.Prelude.{◌≡◌, ◌≤◌, ◌<◌, Some, length, IsTrue, bytes_eq};
+ghost use Rattle.std.specs.Prelude.{◌≡◌, ◌≤◌, ◌<◌, ◌^◌, length, IsTrue, bytes_eq};
 ghost use Rattle.bits_core.specs.Parameters.{length_fits};
 ghost use Rattle.ssp_slots.specs.Slots.{AreWellFormed};
-ghost use Rattle.crypto_services.specs.Serves.{core_of};
-ghost use Rattle.state_model.specs.Commit.{target_bytes, check_value, committed, Commits};
+ghost use Rattle.crypto_services.specs.AtSlots.{on_slot};
+ghost use Rattle.crypto_services.specs.Serves.{Leaves};
+ghost use Rattle.state_model.specs.Commit.{target_bytes, check_value, after_check, commit_at};
 
 use crate::entry::Target;
 use bits_core::{Alg, same, wipe};
-use crypto_services::Parts;
+use crypto_services::{Parts, status_of};
 use engine_core::Engine;
 use service_table::Status;
 
@@ -32,15 +33,13 @@ fn target_bytes(target: &Target) -> [u8; 9]
 }
 
 // Whether this is the check value of the bytes.
-fn checks<E: Engine>(parts: &mut Parts<E>, target: &Target, bytes: &[u8], check: &[u8]) -> bool
+fn checks<E: Engine>(engine: &mut E, target: &Target, bytes: &[u8], check: &[u8]) -> bool
     requires { target.now.length ≤ 64 }
-    ensures answer { result ≡ bytes_eq check.now (check_value E.calls parts.old.engine target.now bytes.now) }
-    ensures engine { parts.new ≡ record parts.old { engine = E.calls.mac_after parts.old.engine Alg.Sha256 bytes.now (target_bytes target.now) } }
+    ensures answer { result ≡ bytes_eq check.now (check_value E.calls engine.old target.now bytes.now) }
+    ensures engine { engine.new ≡ after_check E.calls engine.old target.now bytes.now }
 {
     let mut mac = [0; 64];
-    parts
-        .engine
-        .mac(Alg::Sha256, bytes, &target_bytes(target), &mut mac);
+    engine.mac(Alg::Sha256, bytes, &target_bytes(target), &mut mac);
     let right = same(check, &mac[..8]);
     wipe(&mut mac);
     right
@@ -57,20 +56,21 @@ pub fn commit<E: Engine>(
     requires slot { target.now.slot < 16 }
     requires uses { 1 ≤ target.now.header.uses }
     requires fits { IsTrue (length_fits target.now.header.kind target.now.header.domain target.now.length) }
-    ensures committed { Commits (committed E.calls (core_of parts.old) (Some target.now) bytes.now check.now) (core_of parts.new) result }
-    ensures well_formed { AreWellFormed parts.old.vault.slots → AreWellFormed parts.new.vault.slots }
+    ensures leaves { let result' = on_slot parts.old.vault.slots target.now.slot (commit_at E.calls parts.old.engine target.now bytes.now check.now) in
+        Leaves result' parts.old parts.new × (result ≡ result'.answer.status) }
+    ensures well_formed { AreWellFormed parts.old.vault → AreWellFormed parts.new.vault }
 {
     if bytes.len() != target.length {
         return Status::BadLength;
     }
-    if parts.vault.vacant(target.slot).is_err() {
-        return Status::OccupiedSlot;
+    if let Err(fault) = parts.vault.vacant(target.slot) {
+        return status_of(fault);
     }
-    if !checks(parts, target, bytes, check) {
+    if !checks(&mut parts.engine, target, bytes, check) {
         return Status::CheckFailed;
     }
     match parts.vault.put(target.slot, &target.header, bytes) {
         Ok(_) => Status::Ok,
-        Err(_) => Status::OccupiedSlot,
+        Err(fault) => status_of(fault),
     }
 }

@@ -1,10 +1,10 @@
 // Laws of the machine, each the contract of a function without a body.
 ghost use Rattle.state_model.specs.MachineState.{IsWellFormed, initial_state};
-ghost use Rattle.state_model.specs.Step.{StepsKeepTheRules, DataNeedsARole};
+ghost use Rattle.state_model.specs.Laws.{StepsKeepTheRules, DataNeedsARole, ZeroisingEmptiesAll, ZeroisingEmptiesOne, RefusalsChangeNothing, RefusalsChangeNoSlot};
 
 use engine_core::Engine;
 
-/// The machine begins by its rules, and a step for any command keeps them, with any engine.
+/// The machine begins by its rules, and a step for any command keeps them, with any engine and noise.
 pub fn steps_keep_the_rules<E: Engine>()
     ensures begins { (engine : E) → IsWellFormed (initial_state engine) }
     ensures keeps { StepsKeepTheRules E.calls }
@@ -14,4 +14,16 @@ pub fn steps_keep_the_rules<E: Engine>()
 /// service that zeroises, and none where a service is refused.
 pub fn data_needs_a_role<E: Engine>()
     ensures { DataNeedsARole E.calls }
+{}
+
+/// After ZeroiseAll and Reset all slots are empty. After Zeroise that one is, and no other has changed.
+pub fn zeroising_empties<E: Engine>()
+    ensures all { ZeroisingEmptiesAll E.calls }
+    ensures one { ZeroisingEmptiesOne E.calls }
+{}
+
+/// A command that is unknown, not permitted or not of its form changes nothing at all, and one that a slot refuses changes no slot.
+pub fn refusals_change_nothing<E: Engine>()
+    ensures at_once { RefusalsChangeNothing E.calls }
+    ensures by_slot { RefusalsChangeNoSlot E.calls }
 {}

@@ -1,25 +1,33 @@
 // The module: private fields, and one public call for a command.
-ghost use Rattle.std.specs.Prelude.{◌≡◌, ◌≤◌, ◌<◌, [], true, false, length, IfOk, IsTrue};
+ghost use Rattle.std.specs.Prelude.{◌≡◌, ◌≢◌, ◌<◌, ◌^◌, ◌≤◌, [], ℕ, true, false, IfOk, IsTrue, List, Some, if◌then◌else◌};
 ghost use Rattle.service_table.specs.Services.{is_permitted, is_cryptographic};
-ghost use Rattle.module_frames.specs.Requests.{asked_of, service_for, IsInRange};
+ghost use Rattle.service_table.specs.Numbers.{service_numbered};
+ghost use Rattle.outside.specs.declared.traits.Sample.{Sample};
+ghost use Rattle.outside.specs.Explained.{Explained};
+ghost use Rattle.outside.specs.Faults.{FaultCounted};
+ghost use Rattle.module_frames.specs.Requests.{CryptographicRequest, Cryptographic, request_value, service_for, IsInRange, IsCryptographicInRange};
 ghost use Rattle.module_frames.specs.PublicState.{status_block, no_block};
-ghost use Rattle.bits_core.specs.Algorithms.{alg_size};
+ghost use Rattle.module_frames.specs.PublicEffects.{is_period_over, sent_to_tests};
 ghost use Rattle.bits_core.specs.Parameters.{length_fits};
 ghost use Rattle.bits_core.specs.OutboxContents.{holding};
-ghost use Rattle.ssp_slots.specs.Slots.{slot_in};
-ghost use Rattle.crypto_services.specs.Core.{hash_served, mac_served, mac_verify_served};
-ghost use Rattle.state_model.specs.MachineState.{MachineState, initial_state, public_of};
-ghost use Rattle.state_model.specs.Step.{step, done_for, power_on, request_tests, test_step, select_role, reset, entry_begin, entry_bytes, entry_commit, entry_abort, zeroise, zeroise_all, used, served, return_from, role_state};
+ghost use Rattle.crypto_services.specs.AtSlots.{slot_at};
+ghost use Rattle.state_model.specs.MachineState.{MachineState, initial_state, state_of};
+ghost use Rattle.state_model.specs.Management.{power_on, request_tests, test_step, select_role, reset, entry_begin, entry_bytes, entry_commit, entry_over, zeroise, zeroise_all};
+ghost use Rattle.state_model.specs.Cryptographic.{cryptographic_step, use_of};
+ghost use Rattle.state_model.specs.Step.{step, perform, indicated, request_at};
 ghost use Rattle.state_model.specs.SlotBlock.{header_block, slot_block};
-ghost use Rattle.state_model.specs.Asking.{MayBeAsked};
-ghost use Rattle.state_model.specs.Represents.{Represents, Leaves, LeavesUnused, Replies};
+ghost use Rattle.state_model.specs.Permission.{IsPermittedIn};
+ghost use Rattle.state_model.specs.Represents.{Represents, IsRepresented, IsServiceResult, Replies};
 
 use crate::commit::commit;
+use crate::cryptographic::run_cryptographic_service;
 use crate::entry::{Entry, Target};
-use bits_core::{Alg, Enabled, Header, Inhibited, Outbox, Port, SlotId};
-use crypto_services::{Outcome, Parts, hash, mac, mac_verify};
+use bits_core::{Header, Outbox, SlotId};
+use crypto_services::{Outcome, Parts};
 use engine_core::Engine;
-use module_frames::{Command, Reply, Request, read_request};
+use module_frames::{Command, PublicState, Reply, Request, read_request};
+use noise_health::Health;
+use outside::Noise;
 use service_table::{Service, State, Status, is_cryptographic, permitted, service_of};
 use std::alloc::{AllocError, Global};
 use std::marker::Model;
@@ -27,39 +35,26 @@ use std::marker::Model;
 /// A cryptographic module over an engine. What it keeps is behind the boundary: contracts see it by its model.
 #[derive(Drop)]
 pub struct Module<E: Engine> {
-    state: State,
-    back: State,
-    step: u8,
-    period: u32,
-    count: u32,
+    public: PublicState,
+    tests_passed: u16,
     parts: Parts<E>,
     entry: Entry,
 }
 
 impl<E: Engine> Model for Module<E> {
-    ghost use Rattle.state_model.specs.Kept.{Kept};
+    ghost use Rattle.state_model.specs.ModuleView.{ModuleView};
 
-    ghost Value = { Kept E };
+    ghost Value = { ModuleView E };
 
-    ghost use Rattle.state_model.specs.Held.{kept_of, IsHeld};
+    ghost use Rattle.state_model.specs.ModuleInvariant.{view_of, IsModuleInvariant};
 
-    ghost view = { kept_of };
+    ghost view = { view_of };
 
-    ghost invariant = { IsHeld };
+    ghost invariant = { IsModuleInvariant };
 }
 
 // Name and version, as ShowVersion tells them.
 const VERSION: [u8; 12] = *b"SYMMOD 01.00";
-
-// Where self-tests return that were asked for in this state.
-fn return_from(state: State) -> State
-    ensures { result ≡ return_from state }
-{
-    match state {
-        State::Init => State::Approved,
-        other => other,
-    }
-}
 
 // The status block of a full slot.
 fn header_block(length: usize, header: &Header) -> [u8; 12]
@@ -83,25 +78,25 @@ fn header_block(length: usize, header: &Header) -> [u8; 12]
     ]
 }
 
-// The state of a role: none, the crypto officer's, the user's.
-fn role_state(role: u8) -> State
-    ensures { result ≡ role_state role }
-{
-    match role {
-        0 => State::Approved,
-        1 => State::Officer,
-        _ => State::User,
-    }
-}
-
-// What a service answers that is no cryptographic one.
-fn unused(status: Status) -> Outcome
+// The outcome of a command that used no cryptographic service.
+fn management_outcome(status: Status) -> Outcome
     ensures { result ≡ record { status = status; code = 0; approved = false } }
 {
     Outcome {
         status,
         code: 0,
         approved: false,
+    }
+}
+
+// The public state and the tests that passed, after a cryptographic service: where the period is over, tests are due.
+fn settled(public: PublicState, tests_passed: u16) -> (PublicState, u16)
+    ensures { result ≡ (if is_period_over public then (sent_to_tests public, 0) else (public, tests_passed)) }
+{
+    if public.is_period_over() {
+        (public.sent_to_tests(), 0)
+    } else {
+        (public, tests_passed)
     }
 }
 
@@ -112,11 +107,8 @@ impl<E: Engine> Module<E> {
     {
         let parts = Parts::new(alloc, engine)?;
         Ok(Module {
-            state: State::Off,
-            back: State::Off,
-            step: 0,
-            period: 0,
-            count: 0,
+            public: PublicState::unpowered(),
+            tests_passed: 0,
             parts,
             entry: Entry::empty(),
         })
@@ -124,83 +116,76 @@ impl<E: Engine> Module<E> {
 
     /// The state of the module.
     pub fn state(&self) -> State
-        ensures { result ≡ self.now.state }
+        ensures state { result ≡ self.now.public.state }
+        ensures represented { IsRepresented self.now }
     {
-        self.state
+        self.public.state
     }
 
-    // PowerOn: Off to Init, and sets the period.
+    // PowerOn.
     fn power_on(&mut self, period: u32)
-        requires off { self.old.state ≡ State.Off }
+        requires off { self.old.public.state ≡ State.Off }
         requires period { period ≤ 1000000 }
         ensures { (s : MachineState E) → Represents self.old s → Represents self.new (power_on s period) }
     {
-        self.state = State::Init;
-        self.period = period;
-        self.count = 0;
+        self.public = self.public.powered_on(period);
     }
 
-    // RequestTests: the tests are due from the first one on.
+    // RequestTests.
     fn request_tests(&mut self)
-        requires { is_permitted Service.RequestTests self.old.state ≡ true }
+        requires { is_permitted Service.RequestTests self.old.public.state ≡ true }
         ensures { (s : MachineState E) → Represents self.old s → Represents self.new (request_tests s) }
     {
-        self.back = return_from(self.state);
-        self.state = State::SelfTest;
-        self.step = 0;
-        self.count = 0;
+        self.public = self.public.tests_requested();
+        self.tests_passed = 0;
     }
 
-    // TestStep: the next of three steps, and after the last one back.
+    // TestStep. No step makes a test yet.
     fn test_step(&mut self)
-        requires { self.old.state ≡ State.SelfTest }
+        requires { self.old.public.state ≡ State.SelfTest }
         ensures { (s : MachineState E) → Represents self.old s → Represents self.new (test_step s) }
     {
-        if self.step < 2 {
-            self.step += 1;
-        } else {
-            self.state = self.back;
-            self.back = State::Off;
-            self.step = 0;
-        }
+        self.public = self.public.test_done();
     }
 
-    // SelectRole: the state of the role.
+    // SelectRole.
     fn select_role(&mut self, role: u8)
-        requires { is_permitted Service.SelectRole self.old.state ≡ true }
+        requires { is_permitted Service.SelectRole self.old.public.state ≡ true }
         ensures { (s : MachineState E) → Represents self.old s → Represents self.new (select_role s role) }
     {
-        self.state = role_state(role);
+        self.public = self.public.role_selected(role);
     }
 
-    // Reset: to Init, all slots are empty and nothing is entered. The period stays.
+    // Reset: all slots are empty, nothing is entered, and no test or sample counts any more.
     fn reset(&mut self)
         ensures { (s : MachineState E) → Represents self.old s → Represents self.new (reset s) }
     {
-        self.state = State::Init;
-        self.back = State::Off;
-        self.step = 0;
-        self.count = 0;
+        self.public = self.public.was_reset();
+        self.tests_passed = 0;
         self.parts.vault.zeroise_all();
+        self.parts.health = Health::new();
         self.entry.clear();
     }
 
     // EntryBegin: a parameter is entered for this target.
-    fn entry_begin(&mut self, target: Target)
-        requires officer { self.old.state ≡ State.Officer }
-        requires slot { target.slot < 16 }
-        requires uses { 1 ≤ target.header.uses }
-        requires fits { IsTrue (length_fits target.header.kind target.header.domain target.length) }
-        ensures { (s : MachineState E) → Represents self.old s → Represents self.new (entry_begin s target) }
+    fn entry_begin(&mut self, target: &Target)
+        requires officer { self.old.public.state ≡ State.Officer }
+        requires slot { target.now.slot < 16 }
+        requires uses { 1 ≤ target.now.header.uses }
+        requires fits { IsTrue (length_fits target.now.header.kind target.now.header.domain target.now.length) }
+        ensures { (s : MachineState E) → Represents self.old s → Represents self.new (entry_begin s target.now) }
     {
-        self.entry.begin(target);
-        self.state = State::Entry;
+        // That it is a number of 32 bits is known where it is read.
+        let _uses = target.header.uses;
+        self.public = self.public.entry_begun();
+        self.entry.begin(*target);
     }
 
     // EntryBytes: the piece is appended, unless it would pass the parameter's length.
     fn entry_bytes(&mut self, piece: &[u8]) -> Status
-        requires { self.old.state ≡ State.Entry }
-        ensures { (s : MachineState E) → Represents self.old s → LeavesUnused (entry_bytes s piece.now) self.new result no_block }
+        requires { self.old.public.state ≡ State.Entry }
+        ensures { (s : MachineState E) (events : List Sample) → Represents self.old s →
+            IsServiceResult (entry_bytes s piece.now events) self.new result no_block [] }
     {
         if piece.len() > self.entry.length() - self.entry.filled {
             return Status::BadLength;
@@ -209,10 +194,11 @@ impl<E: Engine> Module<E> {
         Status::Ok
     }
 
-    // EntryCommit: the slot holds what was entered, where the commit isn't refused; the entry is wiped.
+    // EntryCommit: the slot holds what was entered, where the commit isn't refused; the entry is over.
     fn entry_commit(&mut self, check: &[u8]) -> Status
-        requires { self.old.state ≡ State.Entry }
-        ensures { (s : MachineState E) → Represents self.old s → LeavesUnused (entry_commit E.calls s check.now) self.new result no_block }
+        requires { self.old.public.state ≡ State.Entry }
+        ensures { (s : MachineState E) (events : List Sample) → Represents self.old s →
+            IsServiceResult (entry_commit E.calls s check.now events) self.new result no_block [] }
     {
         let status = match &self.entry.target {
             Some(target) => {
@@ -221,18 +207,18 @@ impl<E: Engine> Module<E> {
             }
             None => Status::BadLength,
         };
+        self.public = self.public.entry_ended();
         self.entry.clear();
-        self.state = State::Officer;
         status
     }
 
-    // EntryAbort: the entry is wiped.
+    // EntryAbort: the entry is over.
     fn entry_abort(&mut self)
-        requires { self.old.state ≡ State.Entry }
-        ensures { (s : MachineState E) → Represents self.old s → Represents self.new (entry_abort s) }
+        requires { self.old.public.state ≡ State.Entry }
+        ensures { (s : MachineState E) → Represents self.old s → Represents self.new (entry_over s) }
     {
+        self.public = self.public.entry_ended();
         self.entry.clear();
-        self.state = State::Officer;
     }
 
     // Zeroise: the slot is empty.
@@ -252,7 +238,7 @@ impl<E: Engine> Module<E> {
     // ShowSlot: what the slot holds, but for its bytes.
     fn show_slot(&self, slot: SlotId, block: &mut [u8; 12])
         requires { block.old ≡ no_block }
-        ensures { (s : MachineState E) → Represents self.now s → block.new ≡ slot_block (slot_in s.core.vault slot) }
+        ensures { (s : MachineState E) → Represents self.now s → block.new ≡ slot_block (slot_at s.slots slot) }
     {
         let shown = self.parts.vault.show(slot);
         if let Some(header) = shown.header {
@@ -260,142 +246,43 @@ impl<E: Engine> Module<E> {
         }
     }
 
-    // ShowStatus: the public state.
+    // ShowStatus: the public state, and the tests that passed.
     fn show_status(&self, block: &mut [u8; 12])
-        requires { block.old ≡ no_block }
-        ensures { (s : MachineState E) → Represents self.now s → block.new ≡ status_block (public_of s) }
+        ensures { (s : MachineState E) → Represents self.now s → block.new ≡ status_block s.shared.public s.shared.tests_passed }
     {
-        block[0] = self.back.number();
-        block[1] = self.step;
-        block[4..8].copy_from_slice(&self.period.to_be_bytes());
-        block[8..12].copy_from_slice(&self.count.to_be_bytes());
+        *block = self.public.status_block(self.tests_passed);
     }
 
-    // Counts a use of a cryptographic service; where the period is over, tests are due.
-    fn count_use(&mut self)
-        requires { is_permitted Service.Hash self.old.state ≡ true }
-        ensures { (s : MachineState E) → Represents self.old s → Represents self.new (used s) }
-    {
-        if self.period == 0 {
-            return;
-        }
-        self.count += 1;
-        if self.count == self.period {
-            self.back = self.state;
-            self.state = State::SelfTest;
-            self.step = 0;
-            self.count = 0;
-        }
-    }
-
-    // Hash: a digest.
-    fn hash(&mut self, alg: Alg, text: &[u8], port: &mut Port<'_, Enabled>) -> Outcome
-        requires permitted { is_permitted Service.Hash self.old.state ≡ true }
-        requires empty { port.old.outbox.now.bytes ≡ [] }
-        requires room { 65664 ≤ port.old.outbox.now.room }
-        ensures answer { (s : MachineState E) → Represents self.old s →
-            Leaves (served s (hash_served E.calls s.core alg text.now)) self.new result no_block port.new.outbox.now.bytes }
-        ensures same { port.new.outbox.ghost_name ≡ port.old.outbox.ghost_name }
-        ensures room { port.new.outbox.now.room ≡ port.old.outbox.now.room }
-    {
-        let outcome = hash(&mut self.parts, alg, text, port);
-        self.count_use();
-        outcome
-    }
-
-    // Mac: a MAC under a slot's key.
-    fn mac(
+    // Does a cryptographic service: the use is counted before the slots are looked at, and the period may be over after that.
+    fn run_cryptographic_service(
         &mut self,
-        slot: SlotId,
-        alg: Alg,
-        mac_length: usize,
-        text: &[u8],
-        port: &mut Port<'_, Enabled>,
+        request: &Request<'_>,
+        payload: &mut Outbox,
     ) -> Outcome
-        requires permitted { is_permitted Service.Mac self.old.state ≡ true }
-        requires least { 1 ≤ mac_length }
-        requires most { mac_length ≤ alg_size alg }
-        requires empty { port.old.outbox.now.bytes ≡ [] }
-        requires room { 65664 ≤ port.old.outbox.now.room }
-        ensures answer { (s : MachineState E) → Represents self.old s →
-            Leaves (served s (mac_served E.calls s.core slot alg mac_length text.now)) self.new result no_block port.new.outbox.now.bytes }
-        ensures same { port.new.outbox.ghost_name ≡ port.old.outbox.ghost_name }
-        ensures room { port.new.outbox.now.room ≡ port.old.outbox.now.room }
-    {
-        let outcome = mac(&mut self.parts, slot, alg, mac_length, text, port);
-        self.count_use();
-        outcome
-    }
-
-    // MacVerify: whether a MAC under a slot's key is right.
-    fn mac_verify(
-        &mut self,
-        slot: SlotId,
-        alg: Alg,
-        tag: &[u8],
-        text: &[u8],
-        port: &mut Port<'_, Inhibited>,
-    ) -> Outcome
-        requires permitted { is_permitted Service.MacVerify self.old.state ≡ true }
-        requires least { 1 ≤ length tag.now }
-        requires most { length tag.now ≤ alg_size alg }
-        requires empty { port.old.outbox.now.bytes ≡ [] }
-        requires room { 65664 ≤ port.old.outbox.now.room }
-        ensures answer { (s : MachineState E) → Represents self.old s →
-            Leaves (served s (mac_verify_served E.calls s.core slot alg tag.now text.now)) self.new result no_block port.new.outbox.now.bytes }
-        ensures same { port.new.outbox.ghost_name ≡ port.old.outbox.ghost_name }
-        ensures room { port.new.outbox.now.room ≡ port.old.outbox.now.room }
-    {
-        let outcome = mac_verify(&mut self.parts, slot, alg, tag, text, port);
-        self.count_use();
-        outcome
-    }
-
-    // Does a cryptographic service, with a port over the payload that adds bytes only where the service gives data.
-    fn serve(&mut self, request: Request<'_>, payload: &mut Outbox) -> Outcome
         requires payload { payload.old ≡ holding [] 65664 }
-        requires in_range { IsInRange (asked_of request) }
-        requires cryptographic { is_cryptographic (service_for (asked_of request)) ≡ true }
-        requires permitted { MayBeAsked (asked_of request) self.old.state }
-        ensures answer { (s : MachineState E) → Represents self.old s →
-            Leaves (done_for E.calls s (asked_of request.entry)) self.new result no_block payload.new.bytes }
+        requires cryptographic { (what : CryptographicRequest) × (request_value request.now ≡ Cryptographic what) × IsCryptographicInRange what }
+        requires permitted { is_permitted Service.Hash self.old.public.state ≡ true }
+        ensures answer { (s : MachineState E) (events : List Sample) (what : CryptographicRequest) → Represents self.old s → request_value request.now ≡ Cryptographic what →
+            IsServiceResult (cryptographic_step E.calls s events what) self.new result.status no_block payload.new.bytes }
+        ensures approved { result.approved ≡ indicated (Some (request_value request.now)) result.status self.new.vault.slots }
         ensures room { payload.new.room ≡ 65664 }
     {
-        match request {
-            Request::Hash { alg, text } => {
-                let mut port = Port::<Enabled>::over(payload);
-                self.hash(alg, text, &mut port)
-            }
-            Request::Mac {
-                slot,
-                alg,
-                length,
-                text,
-            } => {
-                let mut port = Port::<Enabled>::over(payload);
-                self.mac(slot, alg, length, text, &mut port)
-            }
-            Request::MacVerify {
-                slot,
-                alg,
-                tag,
-                text,
-            } => {
-                let mut port = Port::<Inhibited>::over(payload);
-                self.mac_verify(slot, alg, tag, text, &mut port)
-            }
-            _ => unreachable!(),
-        }
+        let counted = self.public.use_counted();
+        let outcome = run_cryptographic_service(&mut self.parts, request, payload);
+        let (public, tests_passed) = settled(counted, self.tests_passed);
+        self.public = public;
+        self.tests_passed = tests_passed;
+        outcome
     }
 
     // Does any other service, and fills the block.
-    fn manage(&mut self, request: Request<'_>, block: &mut [u8; 12]) -> Status
+    fn run_management_service(&mut self, request: Request<'_>, block: &mut [u8; 12]) -> Status
         requires block { block.old ≡ no_block }
-        requires in_range { IsInRange (asked_of request) }
-        requires other { is_cryptographic (service_for (asked_of request)) ≡ false }
-        requires permitted { MayBeAsked (asked_of request) self.old.state }
-        ensures { (s : MachineState E) → Represents self.old s →
-            LeavesUnused (done_for E.calls s (asked_of request.entry)) self.new result block.new }
+        requires in_range { IsInRange (request_value request) }
+        requires other { is_cryptographic (service_for (request_value request)) ≡ false }
+        requires permitted { IsPermittedIn (request_value request) self.old.public.state }
+        ensures answer { (s : MachineState E) (events : List Sample) → Represents self.old s →
+            IsServiceResult (perform E.calls s events (request_value request.entry)) self.new result block.new [] }
     {
         match request {
             Request::PowerOn { period } => self.power_on(period),
@@ -409,7 +296,7 @@ impl<E: Engine> Module<E> {
                 slot,
                 header,
                 length,
-            } => self.entry_begin(Target {
+            } => self.entry_begin(&Target {
                 slot,
                 header,
                 length,
@@ -420,13 +307,15 @@ impl<E: Engine> Module<E> {
             Request::Zeroise { slot } => self.zeroise(slot),
             Request::ZeroiseAll => self.zeroise_all(),
             Request::ShowSlot { slot } => self.show_slot(slot, block),
-            _ => unreachable!(),
+            Request::Hash { .. } | Request::Mac { .. } | Request::MacVerify { .. } => {
+                unreachable!()
+            }
         }
         Status::Ok
     }
 
-    // Walks the one order, and does what is asked where the command passes.
-    fn outcome_of(
+    // Walks the order of refusals, and does what is asked where the command passes.
+    fn dispatch(
         &mut self,
         command: &Command,
         block: &mut [u8; 12],
@@ -434,36 +323,44 @@ impl<E: Engine> Module<E> {
     ) -> Outcome
         requires block { block.old ≡ no_block }
         requires payload { payload.old ≡ holding [] 65664 }
-        ensures answer { (s : MachineState E) → Represents self.old s →
-            Leaves (step E.calls s command.now) self.new result block.new payload.new.bytes }
+        ensures answer { (s : MachineState E) (events : List Sample) → Represents self.old s →
+            let after = step E.calls s events command.now in
+            IsServiceResult after self.new result.status block.new payload.new.bytes × (after.left ≡ events) }
+        ensures approved { result.approved ≡ indicated (request_at (service_numbered command.now.service) command.now.body) result.status self.new.vault.slots }
         ensures room { payload.new.room ≡ 65664 }
     {
         let Some(service) = service_of(command.service()) else {
-            return unused(Status::UnknownService);
+            return management_outcome(Status::UnknownService);
         };
-        if !permitted(service, self.state) {
-            return unused(Status::NotInState);
+        if !permitted(service, self.public.state) {
+            return management_outcome(Status::NotInState);
         }
         let Some(request) = read_request(service, command.body()) else {
-            return unused(Status::BadBody);
+            return management_outcome(Status::BadBody);
         };
         if is_cryptographic(service) {
-            return self.serve(request, payload);
+            return self.run_cryptographic_service(&request, payload);
         }
-        unused(self.manage(request, block))
+        management_outcome(self.run_management_service(request, block))
     }
 
-    /// One step of the machine: does what the command asks where the order lets it pass, and fills the reply.
-    pub fn command(&mut self, command: &Command, reply: &mut Reply)
-        ensures { (s : MachineState E) → Represents self.old s → Replies command.now (step E.calls s command.now) self.new reply.new }
+    /// One step of the machine: does what the command asks where the order of refusals lets it pass, with the noise that the source
+    /// gives, and fills the reply. It takes no memory.
+    pub fn command<N: Noise>(&mut self, command: &Command, noise: &mut N, reply: &mut Reply)
+        // Where the noise tells its events, module, reply and the events left are those of the step; of any noise there are events
+        // that explain them.
+        ensures step { Explained (N.left noise.old) (N.left noise.new) (λ events left. (s : MachineState E) → Represents self.old s →
+            let after = step E.calls s events command.now in Replies command.now after self.new reply.new × (after.left ≡ left)) }
+        ensures noise_failed { reply.new.status ≡ Status.NoiseFault → FaultCounted (N.faults noise.old) (N.faults noise.new) }
+        ensures represented { IsRepresented self.new }
     {
         reply.clear();
-        let outcome = self.outcome_of(command, &mut reply.block, &mut reply.payload);
+        let outcome = self.dispatch(command, &mut reply.block, &mut reply.payload);
         reply.service = command.service();
         reply.status = outcome.status;
-        reply.state = self.state;
+        reply.state = self.public.state;
         reply.approved = outcome.approved;
-        reply.code = outcome.code;
+        reply.code = self.public.error_code;
     }
 }
 
@@ -471,20 +368,22 @@ impl<E: Engine> Module<E> {
 mod tests {
     use super::*;
     use engine_core::Shipped;
+    use outside::MemNoise;
     use std::test::Fail;
 
     #[test]
     fn opens_and_answers(rt: HostRuntime) -> Result<(), Fail> {
         let mut module = Module::open(rt.alloc(), Shipped::new())?;
+        let mut noise = MemNoise::new(Vec::new(rt.alloc()));
         let mut command = Command::new(rt.alloc())?;
         let mut reply = Reply::new(rt.alloc())?;
         assert!(rt; module.state() == State::Off);
         command.set(0x01, &[0, 0, 0, 3]);
-        module.command(&command, &mut reply);
+        module.command(&command, &mut noise, &mut reply);
         assert!(rt; reply.status == Status::Ok);
         assert!(rt; module.state() == State::Init);
         command.set(0x04, &[]);
-        module.command(&command, &mut reply);
+        module.command(&command, &mut noise, &mut reply);
         assert_eq!(rt; reply.block, [0, 0, 0, 0, 0, 0, 0, 3, 0, 0, 0, 0]);
         Ok(())
     }
