@@ -7,3 +7,7 @@ pub mod Serving
 pub mod Order
 pub mod RequestReading
 pub mod Keeping
+pub mod Statuses
+pub mod Replying
+pub mod DataInRoles
+pub mod Zeroising

@@ -354,6 +354,8 @@ impl<E: Engine> Module<E> {
         ensures noise_failed { reply.new.status ≡ Status.NoiseFault → FaultCounted (N.faults noise.old) (N.faults noise.new) }
         ensures represented { IsRepresented self.new }
     {
+        // Opened, so that the module's rules are known of what it finds.
+        let _ = &self.public;
         reply.clear();
         let outcome = self.dispatch(command, &mut reply.block, &mut reply.payload);
         reply.service = command.service();

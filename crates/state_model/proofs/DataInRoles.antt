@@ -1,0 +1,107 @@
+-- A step gives data in a role alone, by a service of class data alone, and only where it was done.
+use Rattle.std.proofs.Common.{◌≡◌, ◌≢◌, ◌⊎◌, ◌+◌, Bool, true, false, List, [], ℕ, Option, Some, None, length, take, refl, ap, subst, ◌∙◌, if◌then◌else◌}
+use Rattle.std.specs.Prelude.{nat_le, IfSome}
+use Rattle.service_table.specs.declared.class.Class.TheVariants as class
+use Rattle.service_table.specs.declared.service.Service.{Service}
+use Rattle.service_table.specs.declared.service.Service.TheVariants as service
+use Rattle.service_table.specs.declared.state.State.TheVariants as state
+use Rattle.service_table.specs.declared.status.Status.TheVariants as status
+use Rattle.service_table.specs.Numbers.{service_numbered}
+use Rattle.service_table.specs.Services.{is_permitted, is_approved, class_of}
+use Rattle.bits_core.specs.declared.parameter.Kind.TheVariants as kind
+use Rattle.ssp_slots.specs.declared.slot.Slot.{Slot}
+use Rattle.ssp_slots.specs.declared.slot_fault.SlotFault.{SlotFault}
+use Rattle.ssp_slots.specs.Refusals.{source_fault}
+use Rattle.outside.specs.declared.traits.Sample.{Sample}
+use Rattle.module_frames.specs.Requests.{RequestValue, CryptographicRequest, request_of, service_for, cryptographic_service_for}
+use Rattle.module_frames.specs.Requests as request
+use Rattle.module_frames.specs.PublicState.{no_block}
+use Rattle.engine_core.specs.Calls.{Calls}
+use Rattle.crypto_services.specs.AtSlots.{Answer, slot_at, on_source, source_by, success, refusal}
+use Rattle.crypto_services.specs.Services.{is_leftmost, verified}
+use Rattle.state_model.specs.Permission.{IsPermittedIn}
+use Rattle.state_model.specs.Entries.{with_piece, entry_length}
+use Rattle.state_model.specs.MachineState.{MachineState, state_of}
+use Rattle.state_model.specs.Management.{Stepped, refused, done}
+use Rattle.state_model.specs.Cryptographic.{service_at}
+use Rattle.state_model.specs.Step.{step, dispatch, dispatch_request, perform}
+use Rattle.state_model.specs.Laws.{DataNeedsARole}
+use Rattle.state_model.proofs.Permitted.{role_for_hash}
+use Rattle.state_model.proofs.Keeping.{hash_for_cryptographic}
+use Rattle.state_model.proofs.RequestReading.{IsRead, request_read}
+
+-- an answer with data is one of a service of class data that was done
+abbrev GivesAs : Service → Answer → Type 0
+GivesAs found answer = answer.payload ≢ [] → (answer.status ≡ status.Ok) × (class_of found ≡ class.Payload)
+
+source_gives : {V : Type 0} (found : Service) (engine : V) (slot : Slot) (fault : Option SlotFault) (after : List ℕ → V) (answer : List ℕ → Answer) → ((key : List ℕ) → GivesAs found (answer key))
+    → GivesAs found (on_source engine (source_by slot fault) after answer).answer
+source_gives found engine slot None after answer gives = gives _
+source_gives found engine slot (Some why) after answer gives = λ some. absurd (some refl)
+
+verified_gives : (right : Bool) → GivesAs service.MacVerify (if right then success [] else refusal status.AuthFailed)
+verified_gives true = λ some. absurd (some refl)
+verified_gives false = λ some. absurd (some refl)
+
+service_gives : {V : Type 0} (calls : Calls V) (engine : V) (drawn : List ℕ) (slots : List Slot) (what : CryptographicRequest)
+    → GivesAs (cryptographic_service_for what) (service_at calls engine drawn slots what).answer
+service_gives calls engine drawn slots (request.Hash alg text) = λ some. (refl, refl)
+service_gives calls engine drawn slots (request.Mac slot alg mac_length text) =
+    source_gives service.Mac engine (slot_at slots slot) (source_fault (slot_at slots slot).header kind.Mac (is_approved service.Mac mac_length))
+    (λ key. calls.mac_after engine alg key text) (λ key. success (take mac_length (calls.mac engine alg key text))) (λ key some. (refl, refl))
+service_gives calls engine drawn slots (request.MacVerify slot alg tag text) =
+    source_gives service.MacVerify engine (slot_at slots slot) (source_fault (slot_at slots slot).header kind.Mac (is_approved service.MacVerify (length tag)))
+    (λ key. calls.mac_after engine alg key text) (λ key. verified tag (calls.mac engine alg key text))
+    (λ key. verified_gives (is_leftmost tag (calls.mac engine alg key text)))
+
+-- where data is given, a service of class data was done in a role
+abbrev Gives : {V : Type 0} → Service → MachineState V → Stepped V → Type 0
+Gives found s after =
+    after.payload ≢ [] → (after.status ≡ status.Ok) × ((state_of s ≡ state.Officer) ⊎ (state_of s ≡ state.User)) × (class_of found ≡ class.Payload)
+
+either_none : {V : Type 0} (first : Bool) (a b : Stepped V) → a.payload ≡ [] → b.payload ≡ [] → (if first then a else b).payload ≡ []
+either_none true a b h k = h
+either_none false a b h k = k
+
+perform_gives : {V : Type 0} (calls : Calls V) (s : MachineState V) (events : List Sample) (what : RequestValue) → IsPermittedIn what (state_of s) → Gives (service_for what) s (perform calls s events what)
+perform_gives calls s events (request.Cryptographic what) allowed = λ some.
+    let gives = service_gives calls s.shared.engine [] s.slots what some in
+    (gives.0, role_for_hash (state_of s) (hash_for_cryptographic what (state_of s) allowed), gives.1)
+perform_gives calls s events (request.EntryBytes piece) allowed = λ some.
+    absurd (some (either_none (nat_le (s.entry.filled + length piece) (entry_length s.entry)) (done (record s { entry = with_piece s.entry piece }) no_block events) (refused s status.BadLength events) refl refl))
+perform_gives calls s events (request.PowerOn period) allowed = λ some. absurd (some refl)
+perform_gives calls s events request.TestStep allowed = λ some. absurd (some refl)
+perform_gives calls s events request.RequestTests allowed = λ some. absurd (some refl)
+perform_gives calls s events request.ShowStatus allowed = λ some. absurd (some refl)
+perform_gives calls s events request.ShowVersion allowed = λ some. absurd (some refl)
+perform_gives calls s events (request.SelectRole role) allowed = λ some. absurd (some refl)
+perform_gives calls s events request.Reset allowed = λ some. absurd (some refl)
+perform_gives calls s events (request.EntryBegin slot header long) allowed = λ some. absurd (some refl)
+perform_gives calls s events (request.EntryCommit check) allowed = λ some. absurd (some refl)
+perform_gives calls s events request.EntryAbort allowed = λ some. absurd (some refl)
+perform_gives calls s events (request.Zeroise slot) allowed = λ some. absurd (some refl)
+perform_gives calls s events request.ZeroiseAll allowed = λ some. absurd (some refl)
+perform_gives calls s events (request.ShowSlot slot) allowed = λ some. absurd (some refl)
+
+requested_gives : {V : Type 0} (calls : Calls V) (s : MachineState V) (events : List Sample) (found : Service) (body : List ℕ) (read : Option RequestValue) → IfSome read (IsRead found body)
+    → is_permitted found (state_of s) ≡ true → Gives found s (dispatch_request calls s events read)
+requested_gives calls s events found body None is_read allowed = λ some. absurd (some refl)
+requested_gives calls s events found body (Some what) is_read allowed =
+    subst (λ f. Gives f s (perform calls s events what)) is_read.1 (perform_gives calls s events what (ap (λ f. is_permitted f (state_of s)) is_read.1 ∙ allowed))
+
+choice_gives : {V : Type 0} (calls : Calls V) (s : MachineState V) (events : List Sample) (found : Service) (allowed : Bool) (body : List ℕ) → is_permitted found (state_of s) ≡ allowed
+    → Gives found s (if allowed then dispatch_request calls s events (request_of found body) else refused s status.NotInState events)
+choice_gives calls s events found true body is = requested_gives calls s events found body (request_of found body) (request_read found body) is
+choice_gives calls s events found false body is = λ some. absurd (some refl)
+
+dispatched_gives : {V : Type 0} (calls : Calls V) (s : MachineState V) (events : List Sample) (numbered : Option Service) (body : List ℕ) → (dispatch calls s events numbered body).payload ≢ []
+    → ((dispatch calls s events numbered body).status ≡ status.Ok) × ((state_of s ≡ state.Officer) ⊎ (state_of s ≡ state.User))
+    × ((found : Service) × (numbered ≡ Some found) × (class_of found ≡ class.Payload))
+dispatched_gives calls s events None body some = absurd (some refl)
+dispatched_gives calls s events (Some found) body some =
+    let gives = choice_gives calls s events found (is_permitted found (state_of s)) body refl some in
+    (gives.0, gives.1, (found, refl, gives.2))
+
+pub data_in_roles : {V : Type 0} (calls : Calls V) → DataNeedsARole calls
+unfolding step
+data_in_roles calls s events command = dispatched_gives calls s events (service_numbered command.service) command.body

@@ -1,0 +1,187 @@
+-- What is left of the events of noise, which statuses there are, and what the indicator is where nothing was done.
+use Rattle.std.proofs.Common.{◌≡◌, ◌≢◌, ◌+◌, ℕ, List, [], Bool, true, false, Option, Some, None, length, take, refl, sym, ap, ◌∙◌, if◌then◌else◌}
+use Rattle.std.specs.Prelude.{◌==◌, nat_le, not, bytes_eq}
+use Rattle.service_table.specs.declared.service.Service.{Service}
+use Rattle.service_table.specs.declared.service.Service.TheVariants as service
+use Rattle.service_table.specs.declared.status.Status.{Status}
+use Rattle.service_table.specs.declared.status.Status.TheVariants as status
+use Rattle.service_table.specs.Numbers.{service_numbered}
+use Rattle.service_table.specs.Services.{is_permitted, is_cryptographic, is_approved}
+use Rattle.bits_core.specs.declared.parameter.Kind.{Kind}
+use Rattle.bits_core.specs.declared.parameter.Kind.TheVariants as kind
+use Rattle.ssp_slots.specs.declared.slot.Slot.{Slot}
+use Rattle.ssp_slots.specs.declared.slot_fault.SlotFault.{SlotFault}
+use Rattle.ssp_slots.specs.declared.slot_fault.SlotFault.TheVariants as fault
+use Rattle.ssp_slots.specs.Refusals.{source_fault, vacancy_fault}
+use Rattle.outside.specs.declared.traits.Sample.{Sample}
+use Rattle.module_frames.specs.CommandFrames.{CommandFrame}
+use Rattle.module_frames.specs.PublicState.{no_block}
+use Rattle.module_frames.specs.Requests.{RequestValue, CryptographicRequest, service_for, request_of, IsInRange, IsCryptographicInRange}
+use Rattle.module_frames.specs.Requests as request
+use Rattle.engine_core.specs.Calls.{Calls}
+use Rattle.crypto_services.specs.AtSlots.{Answer, SlotResult, slot_at, fault_status, source, source_by, on_source, under_key, unless_fault, refusal, success}
+use Rattle.crypto_services.specs.Services.{is_leftmost, verified}
+use Rattle.crypto_services.specs.Indicator.{is_ok}
+use Rattle.state_model.specs.declared.entry.Target.{Target}
+use Rattle.state_model.specs.Commit.{unless, commit_at, after_check, check_value, entered}
+use Rattle.state_model.specs.Entries.{with_piece, entry_length}
+use Rattle.state_model.specs.MachineState.{MachineState, state_of}
+use Rattle.state_model.specs.Management.{Stepped, refused, done, committed}
+use Rattle.state_model.specs.Cryptographic.{service_at}
+use Rattle.state_model.specs.Step.{step, dispatch, dispatch_request, perform, indicated}
+
+-- no service takes an event of noise yet
+pub perform_left : {V : Type 0} (calls : Calls V) (s : MachineState V) (events : List Sample) (what : RequestValue) → (perform calls s events what).left ≡ events
+perform_left calls s events (request.EntryBytes piece) = by_room (nat_le (s.entry.filled + length piece) (entry_length s.entry))
+  where
+    by_room : (fits : Bool) → (if fits then done (record s { entry = with_piece s.entry piece }) no_block events else refused s status.BadLength events).left ≡ events
+    by_room true = refl
+    by_room false = refl
+perform_left calls s events (request.PowerOn period) = refl
+perform_left calls s events request.TestStep = refl
+perform_left calls s events request.RequestTests = refl
+perform_left calls s events request.ShowStatus = refl
+perform_left calls s events request.ShowVersion = refl
+perform_left calls s events (request.SelectRole role) = refl
+perform_left calls s events request.Reset = refl
+perform_left calls s events (request.EntryBegin slot header long) = refl
+perform_left calls s events (request.EntryCommit check) = refl
+perform_left calls s events request.EntryAbort = refl
+perform_left calls s events (request.Zeroise slot) = refl
+perform_left calls s events request.ZeroiseAll = refl
+perform_left calls s events (request.ShowSlot slot) = refl
+perform_left calls s events (request.Cryptographic what) = refl
+
+-- What holds of each status that a service may answer.
+pub record OfServices (P : Status → Type 0) : Type 0 where
+  pub ok : P status.Ok
+  pub bad_length : P status.BadLength
+  pub check_failed : P status.CheckFailed
+  pub auth_failed : P status.AuthFailed
+  pub by_slot : (why : SlotFault) → P (fault_status why)
+
+source_status : {V : Type 0} (P : Status → Type 0) → OfServices P → (engine : V) (slot : Slot) (fault : Option SlotFault) (after : List ℕ → V) (answer : List ℕ → Answer)
+    → ((key : List ℕ) → P (answer key).status) → P (on_source engine (source_by slot fault) after answer).answer.status
+source_status P of engine slot None after answer right = right _
+source_status P of engine slot (Some why) after answer right = of.by_slot why
+
+verified_status : (P : Status → Type 0) → OfServices P → (right : Bool) → P (if right then success [] else refusal status.AuthFailed).status
+verified_status P of true = of.ok
+verified_status P of false = of.auth_failed
+
+service_status : {V : Type 0} (P : Status → Type 0) → OfServices P → (calls : Calls V) (engine : V) (drawn : List ℕ) (slots : List Slot) (what : CryptographicRequest)
+    → P (service_at calls engine drawn slots what).answer.status
+service_status P of calls engine drawn slots (request.Hash alg text) = of.ok
+service_status P of calls engine drawn slots (request.Mac slot alg mac_length text) =
+    source_status P of engine (slot_at slots slot) (source_fault (slot_at slots slot).header kind.Mac (is_approved service.Mac mac_length))
+    (λ key. calls.mac_after engine alg key text) (λ key. success (take mac_length (calls.mac engine alg key text))) (λ key. of.ok)
+service_status P of calls engine drawn slots (request.MacVerify slot alg tag text) =
+    source_status P of engine (slot_at slots slot) (source_fault (slot_at slots slot).header kind.Mac (is_approved service.MacVerify (length tag)))
+    (λ key. calls.mac_after engine alg key text) (λ key. verified tag (calls.mac engine alg key text)) (λ key. verified_status P of (is_leftmost tag (calls.mac engine alg key text)))
+
+unless_status : {V : Type 0} (P : Status → Type 0) (engine : V) (slot : Slot) (applies : Bool) (why : Status) (served : SlotResult V) → P why → P served.answer.status
+    → P (unless engine slot applies why served).answer.status
+unless_status P engine slot true why served refusal' next = refusal'
+unless_status P engine slot false why served refusal' next = next
+
+fault_or_status : {V : Type 0} (P : Status → Type 0) → OfServices P → (engine : V) (slot : Slot) (fault : Option SlotFault) (served : SlotResult V) → P served.answer.status
+    → P (unless_fault engine slot fault served).answer.status
+fault_or_status P of engine slot None served next = next
+fault_or_status P of engine slot (Some why) served next = of.by_slot why
+
+committed_status : {V : Type 0} (P : Status → Type 0) → OfServices P → (calls : Calls V) (s : MachineState V) (target : Option Target) (check : List ℕ) → P (committed calls s target check).answer.status
+committed_status P of calls s None check = of.bad_length
+committed_status P of calls s (Some target) check =
+    unless_status P _ _ (not (length (entered s.entry) == target.length)) status.BadLength _ of.bad_length
+    (fault_or_status P of _ _ (vacancy_fault (slot_at s.slots target.slot).header) _
+    (unless_status P _ _ (not (bytes_eq check (check_value calls s.shared.engine target (entered s.entry)))) status.CheckFailed _ of.check_failed of.ok))
+
+-- so it holds of the status of each request that is performed
+pub performed_status : {V : Type 0} (P : Status → Type 0) → OfServices P → (calls : Calls V) (s : MachineState V) (events : List Sample) (what : RequestValue) → P (perform calls s events what).status
+performed_status P of calls s events (request.EntryBytes piece) = by_room (nat_le (s.entry.filled + length piece) (entry_length s.entry))
+  where
+    by_room : (fits : Bool) → P (if fits then done (record s { entry = with_piece s.entry piece }) no_block events else refused s status.BadLength events).status
+    by_room true = of.ok
+    by_room false = of.bad_length
+performed_status P of calls s events (request.EntryCommit check) = committed_status P of calls s s.entry.target check
+performed_status P of calls s events (request.Cryptographic what) = service_status P of calls s.shared.engine [] s.slots what
+performed_status P of calls s events (request.PowerOn period) = of.ok
+performed_status P of calls s events request.TestStep = of.ok
+performed_status P of calls s events request.RequestTests = of.ok
+performed_status P of calls s events request.ShowStatus = of.ok
+performed_status P of calls s events request.ShowVersion = of.ok
+performed_status P of calls s events (request.SelectRole role) = of.ok
+performed_status P of calls s events request.Reset = of.ok
+performed_status P of calls s events (request.EntryBegin slot header long) = of.ok
+performed_status P of calls s events request.EntryAbort = of.ok
+performed_status P of calls s events (request.Zeroise slot) = of.ok
+performed_status P of calls s events request.ZeroiseAll = of.ok
+performed_status P of calls s events (request.ShowSlot slot) = of.ok
+
+-- what a slot refuses is no fault of noise
+fault_is_none : (why : SlotFault) → fault_status why ≢ status.NoiseFault
+fault_is_none fault.EmptySlot = λ e. cc
+fault_is_none fault.WrongKind = λ e. cc
+fault_is_none fault.WrongDomain = λ e. cc
+fault_is_none fault.Spent = λ e. cc
+fault_is_none fault.OccupiedSlot = λ e. cc
+fault_is_none fault.NotExportable = λ e. cc
+
+of_no_noise : OfServices (λ why. why ≢ status.NoiseFault)
+of_no_noise = record { ok = λ e. cc; bad_length = λ e. cc; check_failed = λ e. cc; auth_failed = λ e. cc; by_slot = fault_is_none }
+
+requested_is_none : {V : Type 0} (calls : Calls V) (s : MachineState V) (events : List Sample) (read : Option RequestValue) → (dispatch_request calls s events read).status ≢ status.NoiseFault
+requested_is_none calls s events None = λ e. cc
+requested_is_none calls s events (Some what) = performed_status (λ why. why ≢ status.NoiseFault) of_no_noise calls s events what
+
+choice_is_none : {V : Type 0} (calls : Calls V) (s : MachineState V) (events : List Sample) (allowed : Bool) (read : Option RequestValue)
+    → (if allowed then dispatch_request calls s events read else refused s status.NotInState events).status ≢ status.NoiseFault
+choice_is_none calls s events true read = requested_is_none calls s events read
+choice_is_none calls s events false read = λ e. cc
+
+dispatched_is_none : {V : Type 0} (calls : Calls V) (s : MachineState V) (events : List Sample) (found : Option Service) (body : List ℕ) → (dispatch calls s events found body).status ≢ status.NoiseFault
+dispatched_is_none calls s events None body = λ e. cc
+dispatched_is_none calls s events (Some found) body = choice_is_none calls s events (is_permitted found (state_of s)) (request_of found body)
+
+-- no command meets a fault of noise, since none takes a sample yet
+pub no_noise_fault : {V : Type 0} (calls : Calls V) (s : MachineState V) (events : List Sample) (command : CommandFrame) → (step calls s events command).status ≢ status.NoiseFault
+unfolding step
+no_noise_fault calls s events command = dispatched_is_none calls s events (service_numbered command.service) command.body
+
+-- a request for a cryptographic service is one
+pub cryptographic_request : (what : RequestValue) → is_cryptographic (service_for what) ≡ true → IsInRange what
+    → (asked : CryptographicRequest) × (what ≡ request.Cryptographic asked) × IsCryptographicInRange asked
+cryptographic_request (request.Cryptographic asked) is range = (asked, refl, range)
+cryptographic_request (request.PowerOn period) is range = cc
+cryptographic_request request.TestStep is range = cc
+cryptographic_request request.RequestTests is range = cc
+cryptographic_request request.ShowStatus is range = cc
+cryptographic_request request.ShowVersion is range = cc
+cryptographic_request (request.SelectRole role) is range = cc
+cryptographic_request request.Reset is range = cc
+cryptographic_request (request.EntryBegin slot header long) is range = cc
+cryptographic_request (request.EntryBytes piece) is range = cc
+cryptographic_request (request.EntryCommit check) is range = cc
+cryptographic_request request.EntryAbort is range = cc
+cryptographic_request (request.Zeroise slot) is range = cc
+cryptographic_request request.ZeroiseAll is range = cc
+cryptographic_request (request.ShowSlot slot) is range = cc
+
+-- what wasn't done is no approved use
+pub not_indicated : (read : Option RequestValue) (why : Status) (slots : List Slot) → is_ok why ≡ false → indicated read why slots ≡ false
+not_indicated None why slots h = refl
+not_indicated (Some (request.Cryptographic what)) why slots h = rw h refl
+not_indicated (Some (request.PowerOn period)) why slots h = refl
+not_indicated (Some request.TestStep) why slots h = refl
+not_indicated (Some request.RequestTests) why slots h = refl
+not_indicated (Some request.ShowStatus) why slots h = refl
+not_indicated (Some request.ShowVersion) why slots h = refl
+not_indicated (Some (request.SelectRole role)) why slots h = refl
+not_indicated (Some request.Reset) why slots h = refl
+not_indicated (Some (request.EntryBegin slot header long)) why slots h = refl
+not_indicated (Some (request.EntryBytes piece)) why slots h = refl
+not_indicated (Some (request.EntryCommit check)) why slots h = refl
+not_indicated (Some request.EntryAbort) why slots h = refl
+not_indicated (Some (request.Zeroise slot)) why slots h = refl
+not_indicated (Some request.ZeroiseAll) why slots h = refl
+not_indicated (Some (request.ShowSlot slot)) why slots h = refl

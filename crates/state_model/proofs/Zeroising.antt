@@ -1,0 +1,232 @@
+-- What zeroising leaves, and what refusals leave as it was.
+use Rattle.std.proofs.Common.{◌≡◌, ◌≢◌, ◌⊎◌, ℕ, ◌+◌, List, [], take, Bool, true, false, Option, Some, None, length, replicate, inl, inr, refl, sym, ap, subst, ◌∙◌, arith, if◌then◌else◌}
+use Rattle.std.specs.Prelude.{◌==◌, not, nat_le, bytes_eq}
+use Rattle.std.proofs.lemmas.Bool.{cases_lt}
+use Rattle.std.proofs.lemmas.List.{get_or-replicate, get_or_past, get_or-set_same, get_or-set_other, set_past, length-replicate}
+use Rattle.bits_core.specs.declared.parameter.Kind.{Kind}
+use Rattle.bits_core.specs.declared.parameter.Kind.TheVariants as kind
+use Rattle.service_table.specs.declared.service.Service.{Service}
+use Rattle.service_table.specs.declared.service.Service.TheVariants as service
+use Rattle.service_table.specs.declared.status.Status.{Status}
+use Rattle.service_table.specs.declared.status.Status.TheVariants as status
+use Rattle.service_table.specs.Numbers.{service_numbered}
+use Rattle.service_table.specs.Services.{is_permitted, is_approved}
+use Rattle.ssp_slots.specs.declared.slot.Slot.{Slot}
+use Rattle.ssp_slots.specs.declared.slot_fault.SlotFault.{SlotFault}
+use Rattle.ssp_slots.specs.declared.slot_fault.SlotFault.TheVariants as fault
+use Rattle.ssp_slots.specs.Refusals.{source_fault, vacancy_fault}
+use Rattle.ssp_slots.specs.Slots.{empty_slot}
+use Rattle.outside.specs.declared.traits.Sample.{Sample}
+use Rattle.module_frames.specs.CommandFrames.{CommandFrame}
+use Rattle.module_frames.specs.PublicState.{no_block}
+use Rattle.module_frames.specs.Requests.{RequestValue, CryptographicRequest, request_of}
+use Rattle.module_frames.specs.Requests as request
+use Rattle.engine_core.specs.Calls.{Calls}
+use Rattle.crypto_services.specs.AtSlots.{Answer, SlotResult, SlotsResult, slot_at, with_slot_at, on_slot, on_source, source_by, unless_fault, fault_status, success, refusal}
+use Rattle.crypto_services.specs.Services.{verified, is_leftmost, mac_at, mac_verify_at}
+use Rattle.crypto_services.proofs.Sourcing.{laid_back_at}
+use Rattle.state_model.specs.declared.entry.Target.{Target}
+use Rattle.state_model.specs.Commit.{unless, commit_at, check_value, entered}
+use Rattle.state_model.specs.Entries.{with_piece, entry_length}
+use Rattle.state_model.specs.MachineState.{MachineState, state_of, no_slots}
+use Rattle.state_model.specs.Management.{Stepped, refused, done, committed, zeroise}
+use Rattle.state_model.specs.Cryptographic.{service_at}
+use Rattle.state_model.specs.Step.{step, dispatch, dispatch_request, perform, request_at}
+use Rattle.state_model.specs.Laws.{ZeroisingEmptiesAll, ZeroisingEmptiesOne, IsRefusedAtOnce, RefusalsChangeNothing, IsRefusedBySlot, RefusalsChangeNoSlot}
+use Rattle.state_model.proofs.Statuses.{OfServices, performed_status}
+
+-- each of no slots is empty
+each_empty : (id : ℕ) → slot_at no_slots id ≡ empty_slot
+each_empty id =
+    elim (cases_lt id 16) [
+      | inl within ↦ get_or-replicate 16 id empty_slot empty_slot within
+      | inr past ↦ get_or_past no_slots id empty_slot past
+    ]
+
+-- done, or refused where it isn't permitted or not of its form
+emptied_by : {V : Type 0} (calls : Calls V) (s : MachineState V) (events : List Sample) (what : RequestValue) → (perform calls s events what).machine.slots ≡ no_slots → (allowed whole : Bool)
+    → (let after : Stepped V = if allowed then dispatch_request calls s events (if whole then Some what else None) else refused s status.NotInState events in
+      after.status ≡ status.Ok → (id : ℕ) → slot_at after.machine.slots id ≡ empty_slot)
+emptied_by calls s events what none true true ok id = ap (λ (slots : List Slot). slot_at slots id) none ∙ each_empty id
+emptied_by calls s events what none true false ok id = cc
+emptied_by calls s events what none false whole ok id = cc
+
+pub empties_all : {V : Type 0} (calls : Calls V) → ZeroisingEmptiesAll calls
+unfolding step
+empties_all {V} calls s events command which =
+    let Empties : Option Service → Type 0 = λ found. (dispatch calls s events found command.body).status ≡ status.Ok
+        → (id : ℕ) → slot_at (dispatch calls s events found command.body).machine.slots id ≡ empty_slot in
+    elim which [
+      | inl all ↦ subst Empties (sym all) (emptied_by calls s events request.ZeroiseAll refl (is_permitted service.ZeroiseAll (state_of s)) (length command.body == 0))
+      | inr reset ↦ subst Empties (sym reset) (emptied_by calls s events request.Reset refl (is_permitted service.Reset (state_of s)) (length command.body == 0))
+    ]
+
+-- an empty slot laid at a number is found there
+laid_empty : (slots : List Slot) (id : ℕ) → slot_at (with_slot_at slots id empty_slot) id ≡ empty_slot
+laid_empty slots id =
+    elim (cases_lt id (length slots)) [
+      | inl within ↦ get_or-set_same slots id empty_slot empty_slot within
+      | inr past ↦ ap (λ (xs : List Slot). slot_at xs id) (set_past slots id empty_slot past) ∙ get_or_past slots id empty_slot past
+    ]
+
+one_emptied : {V : Type 0} (calls : Calls V) (s : MachineState V) (events : List Sample) (slot : ℕ) (read : Option RequestValue) → read ≡ Some (request.Zeroise slot) → (allowed : Bool)
+    → (let after : Stepped V = if allowed then dispatch_request calls s events read else refused s status.NotInState events in
+      after.status ≡ status.Ok → (slot_at after.machine.slots slot ≡ empty_slot) × ((other : ℕ) → other ≢ slot → slot_at after.machine.slots other ≡ slot_at s.slots other))
+one_emptied calls s events slot read is true ok = rw is (laid_empty s.slots slot, λ other apart. get_or-set_other s.slots slot other empty_slot empty_slot apart)
+one_emptied calls s events slot read is false ok = cc
+
+pub empties_one : {V : Type 0} (calls : Calls V) → ZeroisingEmptiesOne calls
+unfolding step
+empties_one {V} calls s events command slot = by_service (service_numbered command.service)
+  where
+    by_service : (found : Option Service) → request_at found command.body ≡ Some (request.Zeroise slot) → (dispatch calls s events found command.body).status ≡ status.Ok
+        → (slot_at (dispatch calls s events found command.body).machine.slots slot ≡ empty_slot)
+        × ((other : ℕ) → other ≢ slot → slot_at (dispatch calls s events found command.body).machine.slots other ≡ slot_at s.slots other)
+    by_service None is = cc
+    by_service (Some found) is = one_emptied calls s events slot (request_of found command.body) is (is_permitted found (state_of s))
+
+-- no status of a service is one of a refusal at once
+not_at_once : (why : Status) → why ≢ status.UnknownService → why ≢ status.NotInState → why ≢ status.BadBody → IsRefusedAtOnce why → ⊥
+not_at_once why a b c which = elim which [ | inl x ↦ a x | inr y ↦ (elim y [ | inl z ↦ b z | inr w ↦ c w ]) ]
+
+slot_not_at_once : (why : SlotFault) → IsRefusedAtOnce (fault_status why) → ⊥
+slot_not_at_once fault.EmptySlot = not_at_once status.EmptySlot (λ e. cc) (λ e. cc) (λ e. cc)
+slot_not_at_once fault.WrongKind = not_at_once status.WrongKind (λ e. cc) (λ e. cc) (λ e. cc)
+slot_not_at_once fault.WrongDomain = not_at_once status.WrongDomain (λ e. cc) (λ e. cc) (λ e. cc)
+slot_not_at_once fault.Spent = not_at_once status.Spent (λ e. cc) (λ e. cc) (λ e. cc)
+slot_not_at_once fault.OccupiedSlot = not_at_once status.OccupiedSlot (λ e. cc) (λ e. cc) (λ e. cc)
+slot_not_at_once fault.NotExportable = not_at_once status.NotExportable (λ e. cc) (λ e. cc) (λ e. cc)
+
+never_at_once : OfServices (λ why. IsRefusedAtOnce why → ⊥)
+never_at_once = record {
+  ok = not_at_once status.Ok (λ e. cc) (λ e. cc) (λ e. cc);
+  bad_length = not_at_once status.BadLength (λ e. cc) (λ e. cc) (λ e. cc);
+  check_failed = not_at_once status.CheckFailed (λ e. cc) (λ e. cc) (λ e. cc);
+  auth_failed = not_at_once status.AuthFailed (λ e. cc) (λ e. cc) (λ e. cc);
+  by_slot = slot_not_at_once;
+}
+
+-- nothing has changed
+abbrev Unchanged : {V : Type 0} → MachineState V → List Sample → Stepped V → Type 0
+Unchanged s events after = (after.machine ≡ s) × (after.left ≡ events) × (after.payload ≡ [])
+
+requested_unchanged : {V : Type 0} (calls : Calls V) (s : MachineState V) (events : List Sample) (read : Option RequestValue) → IsRefusedAtOnce (dispatch_request calls s events read).status
+    → Unchanged s events (dispatch_request calls s events read)
+requested_unchanged calls s events None which = (refl, refl, refl)
+requested_unchanged calls s events (Some what) which = absurd (performed_status (λ why. IsRefusedAtOnce why → ⊥) never_at_once calls s events what which)
+
+choice_unchanged : {V : Type 0} (calls : Calls V) (s : MachineState V) (events : List Sample) (allowed : Bool) (read : Option RequestValue)
+    → (let after : Stepped V = if allowed then dispatch_request calls s events read else refused s status.NotInState events in IsRefusedAtOnce after.status → Unchanged s events after)
+choice_unchanged calls s events true read which = requested_unchanged calls s events read which
+choice_unchanged calls s events false read which = (refl, refl, refl)
+
+dispatched_unchanged : {V : Type 0} (calls : Calls V) (s : MachineState V) (events : List Sample) (found : Option Service) (body : List ℕ) → IsRefusedAtOnce (dispatch calls s events found body).status
+    → Unchanged s events (dispatch calls s events found body)
+dispatched_unchanged calls s events None body which = (refl, refl, refl)
+dispatched_unchanged calls s events (Some found) body which = choice_unchanged calls s events (is_permitted found (state_of s)) (request_of found body) which
+
+pub refusals_unchanged : {V : Type 0} (calls : Calls V) → RefusalsChangeNothing calls
+unfolding step
+refusals_unchanged calls s events command = dispatched_unchanged calls s events (service_numbered command.service) command.body
+
+-- what was done, or checked, was refused by no slot
+not_by_slot : (why : Status) → why ≢ status.EmptySlot → why ≢ status.WrongKind → why ≢ status.WrongDomain → why ≢ status.Spent → why ≢ status.OccupiedSlot → IsRefusedBySlot why → ⊥
+not_by_slot why a b c d e which =
+    elim which [ | inl x ↦ a x | inr p ↦ (elim p [ | inl y ↦ b y | inr q ↦ (elim q [ | inl z ↦ c z | inr r ↦ (elim r [ | inl u ↦ d u | inr w ↦ e w ]) ]) ]) ]
+
+ok_by_no_slot : IsRefusedBySlot status.Ok → ⊥
+ok_by_no_slot = not_by_slot status.Ok (λ e. cc) (λ e. cc) (λ e. cc) (λ e. cc) (λ e. cc)
+
+auth_by_no_slot : IsRefusedBySlot status.AuthFailed → ⊥
+auth_by_no_slot = not_by_slot status.AuthFailed (λ e. cc) (λ e. cc) (λ e. cc) (λ e. cc) (λ e. cc)
+
+-- a slot that refuses stays
+abbrev StaysIfRefused : {V : Type 0} → Slot → SlotResult V → Type 0
+StaysIfRefused slot result = IsRefusedBySlot result.answer.status → result.slot ≡ slot
+
+source_stays : {V : Type 0} (engine : V) (slot : Slot) (fault : Option SlotFault) (after : List ℕ → V) (answer : List ℕ → Answer) → ((key : List ℕ) → IsRefusedBySlot (answer key).status → ⊥)
+    → StaysIfRefused slot (on_source engine (source_by slot fault) after answer)
+source_stays engine slot None after answer never which = absurd (never _ which)
+source_stays engine slot (Some why) after answer never which = refl
+
+verified_never : (right : Bool) → IsRefusedBySlot (if right then success [] else refusal status.AuthFailed).status → ⊥
+verified_never true = ok_by_no_slot
+verified_never false = auth_by_no_slot
+
+unless_stays : {V : Type 0} (engine : V) (slot : Slot) (applies : Bool) (why : Status) (served : SlotResult V) → StaysIfRefused slot served → StaysIfRefused slot (unless engine slot applies why served)
+unless_stays engine slot true why served next which = refl
+unless_stays engine slot false why served next which = next which
+
+fault_stays : {V : Type 0} (engine : V) (slot : Slot) (fault : Option SlotFault) (served : SlotResult V) → StaysIfRefused slot served → StaysIfRefused slot (unless_fault engine slot fault served)
+fault_stays engine slot None served next which = next which
+fault_stays engine slot (Some why) served next which = refl
+
+commit_stays : {V : Type 0} (calls : Calls V) (engine : V) (target : Target) (bytes check : List ℕ) (slot : Slot) → StaysIfRefused slot (commit_at calls engine target bytes check slot)
+commit_stays calls engine target bytes check slot =
+    unless_stays engine slot (not (length bytes == target.length)) status.BadLength _ (fault_stays engine slot (vacancy_fault slot.header) _
+    (unless_stays _ slot (not (bytes_eq check (check_value calls engine target bytes))) status.CheckFailed _ (λ which. absurd (ok_by_no_slot which))))
+
+-- and so do all slots
+all_stay : {V : Type 0} (slots : List Slot) (id : ℕ) (service : Slot → SlotResult V) → StaysIfRefused (slot_at slots id) (service (slot_at slots id))
+    → IsRefusedBySlot (on_slot slots id service).answer.status → (on_slot slots id service).slots ≡ slots
+all_stay slots id service stays which = ap (λ (slot : Slot). with_slot_at slots id slot) (stays which) ∙ laid_back_at slots id
+
+service_stays : {V : Type 0} (calls : Calls V) (engine : V) (drawn : List ℕ) (slots : List Slot) (what : CryptographicRequest) → IsRefusedBySlot (service_at calls engine drawn slots what).answer.status
+    → (service_at calls engine drawn slots what).slots ≡ slots
+service_stays calls engine drawn slots (request.Hash alg text) which = refl
+service_stays calls engine drawn slots (request.Mac slot alg mac_length text) which =
+    all_stay slots slot (mac_at calls engine alg mac_length text)
+    (source_stays engine (slot_at slots slot) (source_fault (slot_at slots slot).header kind.Mac (is_approved service.Mac mac_length))
+    (λ key. calls.mac_after engine alg key text) (λ key. success (take mac_length (calls.mac engine alg key text))) (λ key. ok_by_no_slot)) which
+service_stays calls engine drawn slots (request.MacVerify slot alg tag text) which =
+    all_stay slots slot (mac_verify_at calls engine alg tag text)
+    (source_stays engine (slot_at slots slot) (source_fault (slot_at slots slot).header kind.Mac (is_approved service.MacVerify (length tag)))
+    (λ key. calls.mac_after engine alg key text) (λ key. verified tag (calls.mac engine alg key text)) (λ key. verified_never (is_leftmost tag (calls.mac engine alg key text)))) which
+
+committed_stays : {V : Type 0} (calls : Calls V) (s : MachineState V) (target : Option Target) (check : List ℕ) → IsRefusedBySlot (committed calls s target check).answer.status
+    → (committed calls s target check).slots ≡ s.slots
+committed_stays calls s None check which = refl
+committed_stays calls s (Some target) check which =
+    all_stay s.slots target.slot (commit_at calls s.shared.engine target (entered s.entry) check)
+    (commit_stays calls s.shared.engine target (entered s.entry) check (slot_at s.slots target.slot)) which
+
+performed_stays : {V : Type 0} (calls : Calls V) (s : MachineState V) (events : List Sample) (what : RequestValue) → IsRefusedBySlot (perform calls s events what).status
+    → (perform calls s events what).machine.slots ≡ s.slots
+performed_stays calls s events (request.EntryBytes piece) which = by_room (nat_le (s.entry.filled + length piece) (entry_length s.entry))
+  where
+    by_room : (fits : Bool) → (if fits then done (record s { entry = with_piece s.entry piece }) no_block events else refused s status.BadLength events).machine.slots ≡ s.slots
+    by_room true = refl
+    by_room false = refl
+performed_stays calls s events (request.EntryCommit check) which = committed_stays calls s s.entry.target check which
+performed_stays calls s events (request.Cryptographic what) which = service_stays calls s.shared.engine [] s.slots what which
+performed_stays calls s events request.Reset which = absurd (ok_by_no_slot which)
+performed_stays calls s events (request.Zeroise slot) which = absurd (ok_by_no_slot which)
+performed_stays calls s events request.ZeroiseAll which = absurd (ok_by_no_slot which)
+performed_stays calls s events (request.PowerOn period) which = refl
+performed_stays calls s events request.TestStep which = refl
+performed_stays calls s events request.RequestTests which = refl
+performed_stays calls s events request.ShowStatus which = refl
+performed_stays calls s events request.ShowVersion which = refl
+performed_stays calls s events (request.SelectRole role) which = refl
+performed_stays calls s events (request.EntryBegin slot header long) which = refl
+performed_stays calls s events request.EntryAbort which = refl
+performed_stays calls s events (request.ShowSlot slot) which = refl
+
+requested_stays : {V : Type 0} (calls : Calls V) (s : MachineState V) (events : List Sample) (read : Option RequestValue) → IsRefusedBySlot (dispatch_request calls s events read).status
+    → (dispatch_request calls s events read).machine.slots ≡ s.slots
+requested_stays calls s events None which = refl
+requested_stays calls s events (Some what) which = performed_stays calls s events what which
+
+choice_stays : {V : Type 0} (calls : Calls V) (s : MachineState V) (events : List Sample) (allowed : Bool) (read : Option RequestValue)
+    → (let after : Stepped V = if allowed then dispatch_request calls s events read else refused s status.NotInState events in IsRefusedBySlot after.status → after.machine.slots ≡ s.slots)
+choice_stays calls s events true read which = requested_stays calls s events read which
+choice_stays calls s events false read which = refl
+
+dispatched_stays : {V : Type 0} (calls : Calls V) (s : MachineState V) (events : List Sample) (found : Option Service) (body : List ℕ) → IsRefusedBySlot (dispatch calls s events found body).status
+    → (dispatch calls s events found body).machine.slots ≡ s.slots
+dispatched_stays calls s events None body which = refl
+dispatched_stays calls s events (Some found) body which = choice_stays calls s events (is_permitted found (state_of s)) (request_of found body) which
+
+pub refusals_stay : {V : Type 0} (calls : Calls V) → RefusalsChangeNoSlot calls
+unfolding step
+refusals_stay calls s events command = dispatched_stays calls s events (service_numbered command.service) command.body
