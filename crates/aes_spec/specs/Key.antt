@@ -23,7 +23,8 @@ rcon j = power 2 (j - 1) ∷ 0 ∷ 0 ∷ 0 ∷ []
 abbrev pub key_word : List ℕ → ℕ → List ℕ
 key_word key i = map (λ b. slice_index key (4 * i + b)) (range_with_len 0 4)
 
--- what word i adds to word i - nk, where `last` is word i - 1
+-- what word i adds to word i - nk, where `last` is word i - 1. The standard's second test is nk > 6 and i mod nk = 4; a key has 4, 6
+-- or 8 words, and so it is nk = 8 and i mod 8 = 4.
 abbrev pub added_word : ℕ → ℕ → List ℕ → List ℕ
 added_word nk i last =
     cond (i % nk == 0) (word_sum (sub_word (rot_word last)) (rcon (i / nk)))

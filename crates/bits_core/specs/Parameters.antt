@@ -1,4 +1,4 @@
--- Kinds and domains of security parameters, the numbers that name them, and the lengths that fit.
+-- Kinds and domains of security parameters, the numbers that name them, and the lengths that fit: tables of this project's own.
 use Rattle.std.specs.Prelude.{◌≢◌, ℕ, Bool, Option, Some, None, ◌==◌, ◌&&◌, ◌||◌, nat_le, if◌then◌else◌}
 use Rattle.bits_core.specs.declared.parameter.Kind.{Kind}
 use Rattle.bits_core.specs.declared.parameter.Kind.TheVariants.{Aes, Kek, Mac, Kdf}

@@ -9,7 +9,8 @@ pub fn wipe(bytes: &mut [u8])
     bytes.fill(0);
 }
 
-/// Whether two lists of bytes are equal. It reads each byte of both, wherever they differ.
+/// Whether two lists of bytes are equal. It returns at once where their lengths differ, and else reads each byte of both, wherever
+/// they differ.
 pub fn same(a: &[u8], b: &[u8]) -> bool
     ensures { IsTrue result ↔ (a.now ≡ b.now) }
 {

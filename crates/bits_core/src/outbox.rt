@@ -13,10 +13,13 @@ use std::marker::Model;
 pub struct Outbox {
     buffer: Vec<u8>,
     used: usize,
+    /// Where the buffer stands. No call moves it, so no block is given back that bytes were put into.
+    block: *const u8,
 }
 
 impl Model for Outbox {
     ghost use Rattle.std.specs.Prelude.{◌≡◌, ◌≤◌, ◌-◌, length, take, drop};
+    ghost use Rattle.std.specs.Vec.{vec_ptr};
     ghost use Rattle.bits_core.specs.OutboxContents.{OutboxContents};
     ghost use Rattle.bits_core.specs.ByteList.{zeros};
 
@@ -24,7 +27,7 @@ impl Model for Outbox {
 
     ghost view = { λ a. record { bytes = take a.used a.buffer.items; room = length a.buffer.items; unused = drop a.used a.buffer.items } };
 
-    ghost invariant = { λ a. (a.used ≤ length a.buffer.items) × (drop a.used a.buffer.items ≡ zeros (length a.buffer.items - a.used)) };
+    ghost invariant = { λ a. (a.used ≤ length a.buffer.items) × (drop a.used a.buffer.items ≡ zeros (length a.buffer.items - a.used)) × (vec_ptr a.buffer ≡ a.block) };
 }
 
 impl Outbox {
@@ -33,7 +36,12 @@ impl Outbox {
         ensures { IfOk result (λ outbox. outbox ≡ holding [] room) }
     {
         let buffer = vec![in alloc; 0; room]?;
-        Ok(Outbox { buffer, used: 0 })
+        let block = buffer.as_ptr();
+        Ok(Outbox {
+            buffer,
+            used: 0,
+            block,
+        })
     }
 
     /// The bytes that were put.
@@ -52,7 +60,7 @@ impl Outbox {
         self.buffer.len()
     }
 
-    /// Removes the bytes and makes the whole buffer zero.
+    /// Removes the bytes and makes the whole buffer zero, in the block where it stands.
     pub fn clear(&mut self)
         ensures { self.new ≡ holding [] self.old.room }
     {

@@ -61,9 +61,11 @@ impl Drbg {
     }
 
     /// Fills `out`, of at most 65,536 bytes, with one request's output (SP 800-90A Rev. 1, 10.1.2.5).
-    /// The additional input has any length. The counter grows by one.
+    /// The generator was seeded: it isn't empty or wiped. The additional input has any length. The counter
+    /// grows by one.
     pub fn generate(&mut self, additional: &[u8], out: &mut [u8])
         requires length { length out.old ≤ 65536 }
+        requires seeded { 1 ≤ self.old.counter }
         requires counter { self.old.counter ≤ 1024 }
         ensures bytes { out.new ≡ (generate self.old additional.now (length out.old)).bytes }
         ensures after { self.new ≡ (generate self.old additional.now (length out.old)).after }

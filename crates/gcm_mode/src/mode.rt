@@ -48,8 +48,9 @@ pub fn open(prepared: &Prepared, iv: &[u8], aad: &[u8], text: &mut [u8], tag: &[
     ensures refused { IsFalse result → text.new ≡ zeros (length text.old) }
 {
     let counter = first_counter(prepared, iv);
-    let full = tag_of(prepared, &counter, aad, text);
+    let mut full = tag_of(prepared, &counter, aad, text);
     let authentic = same(&full[..tag.len()], tag);
+    wipe(&mut full);
     if authentic {
         gctr(&prepared.schedule, &next_counter(counter), text);
     } else {

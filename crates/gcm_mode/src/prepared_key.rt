@@ -4,6 +4,7 @@ ghost use Rattle.bits_core.specs.Parameters.{is_aes_length};
 ghost use Rattle.gcm_mode.specs.Filled.{IsFilled, IsReady, IsWiped};
 
 use aes_core::Schedule;
+use bits_core::wipe;
 use ghash_core::Table;
 
 /// A key made ready for many calls: its AES schedule and the table of its hash subkey.
@@ -34,6 +35,7 @@ impl Prepared {
         let mut subkey = [0u8; 16];
         self.schedule.encrypt(&mut subkey);
         self.table.fill(&subkey);
+        wipe(&mut subkey);
     }
 
     /// Makes all of it zero.

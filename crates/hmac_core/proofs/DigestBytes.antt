@@ -1,5 +1,5 @@
 -- Digests and MACs are lists of bytes, whatever is digested.
-use Rattle.std.proofs.Common.{◌≡◌, ℕ, zero, suc, ◌<◌, ◌/◌, ◌%◌, ◌^◌, List, [], ◌∷◌, lit<, arith}
+use Rattle.std.proofs.Common.{ℕ, zero, suc, ◌<◌, ◌/◌, ◌^◌, List, [], ◌∷◌, lit<}
 use Rattle.std.specs.Int.{byte_at, bytes_high_first}
 use Rattle.std.proofs.lemmas.Nat.{mod_below}
 use Rattle.sha2.specs.Sha256.{sha256, digest_bytes as digest_bytes_of_32}

@@ -10,10 +10,10 @@ use crate::hasher::{Hasher, widened};
 use bits_core::{Alg, wipe};
 use std::alloc::AllocError;
 
-/// The byte that is repeated to ipad (FIPS 198-1, section 3).
+/// The byte that is repeated to ipad (FIPS 198-1, section 2.3, and step 4 of table 1).
 const IPAD: u8 = 0x36;
 
-/// The byte that is repeated to opad.
+/// The byte that is repeated to opad (section 2.3, and step 7 of table 1).
 const OPAD: u8 = 0x5c;
 
 /// An HMAC that takes its text piece by piece.
@@ -102,8 +102,10 @@ fn padded_key(alg: Alg, key: &[u8]) -> [u8; 128]
     if key.len() > alg.block() {
         let mut hasher = Hasher::new(alg);
         hasher.update(key);
-        let digest = hasher.finish();
-        widened(&digest[..alg.size()])
+        let mut digest = hasher.finish();
+        let block = widened(&digest[..alg.size()]);
+        wipe(&mut digest);
+        block
     } else {
         widened(key)
     }

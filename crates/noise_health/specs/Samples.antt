@@ -14,7 +14,8 @@ last_of samples = first_of (reverse samples)
 abbrev pub run_at_end : List ℕ → ℕ
 run_at_end samples = prefix_len (λ sample. sample == last_of samples) (reverse samples)
 
--- the last window that the samples have begun: windows are 512 samples long, counted from the first sample
+-- the last window that the samples have begun: windows are 512 samples long, as for a source that isn't binary (SP 800-90B, section
+-- 4.4.2), counted from the first sample
 abbrev pub last_window : List ℕ → List ℕ
 last_window samples = drop (512 * ((length samples - 1) / 512)) samples
 

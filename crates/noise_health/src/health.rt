@@ -1,10 +1,13 @@
 // The repetition count test and the adaptive proportion test of SP 800-90B.
 ghost use Rattle.std.specs.Prelude.{◌≡◌, ◌<◌, ◌≤◌, ◌++◌, ◌∷◌, [], ℕ, List, None, length};
 
+/// The cutoff of the repetition count test (SP 800-90B, section 4.4.1).
 const REPETITION_CUTOFF: u8 = 31;
 
+/// The window of the adaptive proportion test: 512 samples, as for a source that isn't binary (section 4.4.2).
 const WINDOW: u16 = 512;
 
+/// The cutoff of the adaptive proportion test in such a window (section 4.4.2).
 const PROPORTION_CUTOFF: u16 = 325;
 
 /// What is wrong with a noise source.

@@ -5,7 +5,8 @@ ghost use Rattle.service_table.specs.Services.{is_permitted};
 
 use crate::State;
 
-/// The services of the module (FIPS 140-3; ISO/IEC 19790:2012, 7.4.3).
+/// The services of the module. Which there are, and where each is permitted, is this project's own table (FIPS 140-3 asks for one;
+/// ISO/IEC 19790:2012, 7.4.3).
 #[derive(Clone, Copy, Debug, PartialEq, Eq)]
 pub enum Service {
     /// From Off to Init; sets the period.

@@ -2,7 +2,7 @@
 ghost use Rattle.std.specs.Prelude.{◌≡◌};
 ghost use Rattle.service_table.specs.Numbers.{state_number, state_numbered};
 
-/// The states of the finite state model (FIPS 140-3; ISO/IEC 19790:2012, 7.4).
+/// The states of the finite state model, which is this project's own (FIPS 140-3 asks for one; ISO/IEC 19790:2012, 7.11.4).
 #[derive(Clone, Copy, Debug, PartialEq, Eq)]
 pub enum State {
     /// Not powered.

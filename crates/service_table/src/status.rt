@@ -2,7 +2,7 @@
 ghost use Rattle.std.specs.Prelude.{◌≡◌};
 ghost use Rattle.service_table.specs.Numbers.{status_number, status_numbered};
 
-/// The status of a reply: done, or the first reason of refusal.
+/// The status of a reply: done, or the first reason of refusal. The table is this project's own.
 #[derive(Clone, Copy, Debug, PartialEq, Eq)]
 pub enum Status {
     /// The service was done.

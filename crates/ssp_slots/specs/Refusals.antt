@@ -1,4 +1,5 @@
--- When a call on a slot is refused: the faults in the order in which they are looked for, each beside its test.
+-- When a call on a slot is refused: the faults in the order in which they are looked for, each beside its test. The rules and their
+-- order are this project's own.
 use Rattle.std.specs.Prelude.{◌≡◌, Bool, not, ◌&&◌, ◌==◌, if◌then◌else◌, Option, Some, None, List, [], ◌∷◌, is_some, ⊤, Result, MatchResult}
 use Rattle.bits_core.specs.declared.parameter.Header.{Header}
 use Rattle.bits_core.specs.declared.parameter.Kind.{Kind}

@@ -1,4 +1,5 @@
--- A slot of the vault, what it holds, and when it is well formed (ISO/IEC 19790:2012, 7.9).
+-- A slot of the vault, what it holds, and when it is well formed: this project's own way to store and zeroise sensitive security
+-- parameters (ISO/IEC 19790:2012, 7.9.6 and 7.9.7).
 use Rattle.std.specs.Prelude.{◌≡◌, ◌≢◌, ℕ, ◌-◌, ◌^◌, ◌<◌, Some, None, List, length, take, drop, IsTrue, is_some, MatchOption, replicate, slice_index_or, slice_set}
 use Rattle.std.specs.Option.{option_map}
 use Rattle.bits_core.specs.declared.parameter.Header.{Header}
@@ -63,7 +64,7 @@ filled_in vault id header bytes = with_slot vault id (filled_slot header bytes)
 abbrev pub spent_in : Contents → ℕ → Contents
 spent_in vault id = with_slot vault id (spent_slot (slot_in vault id))
 
--- the vault after a slot was zeroised (ISO/IEC 19790:2012, 7.9.7)
+-- the vault after a slot was zeroised
 abbrev pub zeroised_in : Contents → ℕ → Contents
 zeroised_in vault id = with_slot vault id empty_slot
 

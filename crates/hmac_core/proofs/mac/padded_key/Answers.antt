@@ -13,7 +13,7 @@ returns-then-key-block c =
     let held = c.update.ensures alg [] c.new-hasher.ensures in
     let cut : take c.size.result c.finish-digest.result ≡ hash alg key = ap (λ (n : ℕ). take n c.finish-digest.result) c.size.ensures ∙ ap (take (alg_size alg)) (c.finish-digest.ensures alg key held) ∙ take-padded_digest alg key in
     let long : alg_block alg < length key = subst (λ (n : ℕ). n < length key) c.block.ensures c.if-key-block.true in
-    ap (take (alg_block alg)) (c.widened.ensures ∙ ap (zero_padded 128) cut)
+    ap (take (alg_block alg)) (c.widened-block.ensures ∙ ap (zero_padded 128) cut)
     ∙ take-zero_padded (alg_block alg) 128 (hash alg key) (omega (arith, length-hash alg key, size_le_block alg)) (block_le alg)
     ∙ sym (long_key alg key long)
 
@@ -22,6 +22,6 @@ returns-else-key-block c =
     let alg = c.args.alg in
     let key = c.args.key.now in
     let short : length key ≤ alg_block alg = subst (λ (n : ℕ). length key ≤ n) c.block.ensures c.if-key-block.false in
-    ap (take (alg_block alg)) c.widened-else-key-block.ensures
+    ap (take (alg_block alg)) c.widened.ensures
     ∙ take-zero_padded (alg_block alg) 128 key short (block_le alg)
     ∙ sym (short_key alg key short)

@@ -29,7 +29,7 @@ invariant_of-self c =
     let d = c.deref_mut.ensures in
     let room = fits box.buffer.items box.used (length c.args.piece.now) c.args.self.now c.self.view_is c.self.invariant.0 c.requires in
     let new = written box.buffer.len box.used c.write_at.new.buffer c.deref_mut.result.now box.buffer.items c.args.piece.now d.value d.len w.same_length w.rest c.self.invariant.1 in
-    (omega (arith, ap length new.0, room, ap length d.value), new.1)
+    (omega (arith, ap length new.0, room, ap length d.value), new.1, c.self.invariant.2)
 
 pub returns : goal.returns
 returns c =
