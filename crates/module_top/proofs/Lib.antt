@@ -1,8 +1,8 @@
-pub mod Going
-pub mod Cases
-pub mod Pieces
-pub mod Ending
-pub mod Words
-pub mod Outputs
+pub mod CommandRuns
+pub mod ResultCases
+pub mod ChunkSteps
+pub mod StreamEnds
+pub mod ProgramOutputs
 pub mod OneOutput
-pub mod Sending
+pub mod PartialWrites
+pub mod WordLists

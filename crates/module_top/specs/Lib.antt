@@ -1,5 +1,5 @@
 pub mod Run
-pub mod Desk
+pub mod Chunks
 pub mod Serving
 pub mod Program
 pub mod Faults

@@ -1,15 +1,21 @@
 -- What the program answers to its words and its input, and what it writes.
-use Rattle.std.specs.Prelude.{◌≡◌, ◌≢◌, ◌≤◌, ◌<◌, ℕ, List, [], ◌∷◌, length, take, codes}
+use Rattle.std.specs.Prelude.{◌≡◌, ◌≤◌, ◌<◌, ℕ, List, [], ◌∷◌, Option, Some, None, length, take, codes, bytes_eq, if◌then◌else◌}
 use Rattle.engine_core.specs.Calls.{Calls}
+use Rattle.outside.specs.declared.traits.Sample.{Sample}
+use Rattle.module_frames.specs.ReplyFrames.{ReplyFrame}
 use Rattle.state_model.specs.MachineState.{MachineState, initial_state}
 use Rattle.module_top.specs.declared.serving.Ended.{Ended}
 use Rattle.module_top.specs.declared.serving.Ended.TheVariants as ended
-use Rattle.module_top.specs.Run.{Runs, remainder_start, fault_or, ending_of}
+use Rattle.module_top.specs.declared.words.Form.{Form}
+use Rattle.module_top.specs.declared.words.Form.TheVariants as form
+use Rattle.module_top.specs.Run.{Runs, remainder_start, fault_or, ending_of, encoded_replies}
 use Rattle.module_top.specs.Serving.{stream_max}
 
--- the one form of the words
-abbrev pub serve_words : List (List ℕ)
-serve_words = codes "serve" ∷ []
+-- The form of the words, where they have one: `serve` alone. Any other words are a faulty command line.
+abbrev pub form_of : List (List ℕ) → Option Form
+form_of [] = None
+form_of (first ∷ []) = if bytes_eq first (codes "serve") then Some form.Serve else None
+form_of (first ∷ second ∷ more) = None
 
 -- the exit status for how serving ended
 abbrev pub exit_status : Ended → ℕ
@@ -20,17 +26,23 @@ exit_status ended.ReadFault = 5
 exit_status ended.WriteFault = 6
 exit_status ended.Limit = 12
 
+-- the run over a stream from a module that isn't powered, with no event of noise: of 2^40 bytes or more the first 2^40
+pub record ServesStream {V : Type 0} (calls : Calls V) (engine : V) (bytes : List ℕ) (status : ℕ) (out : List ℕ) : Type 0 where
+  pub short : length bytes < stream_max →
+      (t : MachineState V) × (replies : List ReplyFrame) × (left : List Sample) × (remainder : List ℕ) × Runs calls (initial_state engine) [] bytes t replies left remainder
+      × (out ≡ encoded_replies replies) × (status ≡ exit_status (ending_of (remainder_start bytes remainder) remainder))
+  pub too_long : stream_max ≤ length bytes →
+      (t : MachineState V) × (replies : List ReplyFrame) × (left : List Sample) × (remainder : List ℕ) × Runs calls (initial_state engine) [] (take stream_max bytes) t replies left remainder
+      × (out ≡ encoded_replies replies) × (status ≡ exit_status (fault_or (remainder_start (take stream_max bytes) remainder) remainder ended.Limit))
+
+-- what a form of the words does
+abbrev pub IsOutputOf : {V : Type 0} → Calls V → V → Option Form → List ℕ → ℕ → List ℕ → Type 0
+IsOutputOf calls engine None bytes status out = (status ≡ 2) × (out ≡ [])
+IsOutputOf calls engine (Some form.Serve) bytes status out = ServesStream calls engine bytes status out
+
 -- The status and the written bytes, with an engine, where no call fails and memory is found.
-pub record IsProgramOutput {V : Type 0} (calls : Calls V) (engine : V) (words : List (List ℕ)) (bytes : List ℕ) (status : ℕ) (out : List ℕ) : Type 0 where
-  -- any other words are a faulty command line
-  pub usage : words ≢ serve_words → (status ≡ 2) × (out ≡ [])
-  -- the run over the input, from a module that isn't powered
-  pub serve : words ≡ serve_words → length bytes < stream_max →
-      (t : MachineState V) × (remainder : List ℕ) × Runs calls (initial_state engine) bytes t out remainder × (status ≡ exit_status (ending_of (remainder_start bytes remainder) remainder))
-  -- of a stream that is too long the first 2^40 bytes are taken
-  pub too_long : words ≡ serve_words → stream_max ≤ length bytes →
-      (t : MachineState V) × (remainder : List ℕ) × Runs calls (initial_state engine) (take stream_max bytes) t out remainder
-      × (status ≡ exit_status (fault_or (remainder_start (take stream_max bytes) remainder) remainder ended.Limit))
+abbrev pub IsProgramOutput : {V : Type 0} → Calls V → V → List (List ℕ) → List ℕ → ℕ → List ℕ → Type 0
+IsProgramOutput calls engine words bytes status out = IsOutputOf calls engine (form_of words) bytes status out
 
 -- for an engine, words and input there is one status and one output
 abbrev pub HasOneOutput : {V : Type 0} → Calls V → Type 0

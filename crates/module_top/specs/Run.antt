@@ -1,38 +1,43 @@
 -- A run of the machine over the bytes of a stream.
-use Rattle.std.specs.Prelude.{◌≡◌, ◌-◌, ◌++◌, ℕ, List, [], ◌∷◌, length}
+use Rattle.std.specs.Prelude.{◌≡◌, ◌-◌, ℕ, List, [], ◌∷◌, length}
 use Rattle.std.specs.Option.{option_map_or}
+use Rattle.std.specs.List.{flat_map}
 use Rattle.engine_core.specs.Calls.{Calls}
+use Rattle.outside.specs.declared.traits.Sample.{Sample}
 use Rattle.module_frames.specs.CommandFrames.{CommandFrame}
-use Rattle.module_frames.specs.ReplyFrames.{reply_encoding}
+use Rattle.module_frames.specs.ReplyFrames.{ReplyFrame, reply_encoding}
 use Rattle.module_frames.specs.Streams.{ParsesInto, fault_from}
 use Rattle.state_model.specs.MachineState.{MachineState}
 use Rattle.state_model.specs.Step.{step, reply_to}
 use Rattle.module_top.specs.declared.serving.Ended.{Ended}
 use Rattle.module_top.specs.declared.serving.Ended.TheVariants as ended
 
--- the machine after some commands, and their replies joined
+-- what a run over some commands leaves: the machine, the replies, and the events of noise that are left
 pub record Ran (V : Type 0) : Type 0 where
   pub machine : MachineState V
-  pub out : List ℕ
+  pub replies : List ReplyFrame
+  pub left : List Sample
 
--- the reply to a command, encoded
-abbrev pub reply_bytes : {V : Type 0} → Calls V → MachineState V → CommandFrame → List ℕ
-reply_bytes calls s command = reply_encoding (reply_to command (step calls s command))
-
-abbrev pub with_reply : {V : Type 0} → List ℕ → Ran V → Ran V
-with_reply reply ran = record { machine = ran.machine; out = reply ++ ran.out }
+abbrev pub with_reply : {V : Type 0} → ReplyFrame → Ran V → Ran V
+with_reply reply ran = record ran { replies = reply ∷ ran.replies }
 
 -- the machine steps over the commands
-unfoldable pub run_commands : {V : Type 0} → Calls V → MachineState V → List CommandFrame → Ran V
-run_commands calls s [] = record { machine = s; out = [] }
-run_commands calls s (command ∷ commands) = with_reply (reply_bytes calls s command) (run_commands calls (step calls s command).machine commands)
+unfoldable pub run_commands : {V : Type 0} → Calls V → MachineState V → List Sample → List CommandFrame → Ran V
+run_commands calls s events [] = record { machine = s; replies = []; left = events }
+run_commands calls s events (command ∷ commands) =
+    let after = step calls s events command in
+    with_reply (reply_to command after) (run_commands calls after.machine after.left commands)
 
--- The run from s over these bytes: they split into commands and a remainder, the machine steps over the commands to t, and their
--- replies joined are written.
-pub record Runs {V : Type 0} (calls : Calls V) (s : MachineState V) (bytes : List ℕ) (t : MachineState V) (out remainder : List ℕ) : Type 0 where
+-- the bytes that are written for replies: their encodings joined
+abbrev pub encoded_replies : List ReplyFrame → List ℕ
+encoded_replies replies = flat_map reply_encoding replies
+
+-- The run from s over these bytes, with these events of noise: they parse into commands and a remainder, and the machine steps over
+-- the commands to t, gives the replies and leaves the events.
+pub record Runs {V : Type 0} (calls : Calls V) (s : MachineState V) (events : List Sample) (bytes : List ℕ) (t : MachineState V) (replies : List ReplyFrame) (left : List Sample) (remainder : List ℕ) : Type 0 where
   pub commands : List CommandFrame
   pub parses : ParsesInto bytes commands remainder
-  pub ran : run_commands calls s commands ≡ record { machine = t; out = out }
+  pub ran : run_commands calls s events commands ≡ record { machine = t; replies = replies; left = left }
 
 -- the offset in a stream of these bytes at which the remainder begins that they leave
 abbrev pub remainder_start : List ℕ → List ℕ → ℕ

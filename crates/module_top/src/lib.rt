@@ -8,6 +8,7 @@ mod running;
 mod serving;
 #[cfg(test)]
 mod tests;
+mod words;
 
 pub use faults::RunFault;
 pub use laws::has_one_output;

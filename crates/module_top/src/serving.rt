@@ -1,18 +1,20 @@
 // A stream of commands, served to its end.
-ghost use Rattle.std.specs.Prelude.{◌≡◌, ◌≢◌, ◌≤◌, ◌<◌, [], None, IfOk, OnOk, OnErr, length, take, replicate};
-ghost use Rattle.outside.specs.Contents.{Takes, IsSpent};
-ghost use Rattle.outside.specs.Faults.{Rose};
+ghost use Rattle.std.specs.Prelude.{◌≡◌, ◌≢◌, ◌≤◌, ◌<◌, [], List, None, IfOk, OnOk, OnErr, length, take, replicate};
+ghost use Rattle.outside.specs.Contents.{Consumes, IsAtEnd};
+ghost use Rattle.outside.specs.declared.traits.Sample.{Sample};
+ghost use Rattle.outside.specs.Faults.{FaultCounted};
+ghost use Rattle.outside.specs.Explained.{Explained};
 ghost use Rattle.module_frames.specs.Fragments.{IsIncomplete, new_fragment};
 ghost use Rattle.module_frames.specs.Replies.{IsCleared};
 ghost use Rattle.state_model.specs.MachineState.{MachineState};
-ghost use Rattle.state_model.specs.Represents.{Represents};
+ghost use Rattle.state_model.specs.Represents.{Represents, IsRepresented};
 ghost use Rattle.module_top.specs.Run.{ending_of};
 ghost use Rattle.module_top.specs.Serving.{Serves};
 
-use crate::answering::{Served, serve_piece};
+use crate::answering::{ChunkEnd, serve_chunk};
 use engine_core::Engine;
 use module_frames::{Frames, Reply};
-use outside::{Failed, Sink, Source};
+use outside::{Failed, Noise, Sink, Source};
 use state_model::Module;
 
 /// How serving ended.
@@ -41,19 +43,20 @@ fn read_some<S: Source>(commands: &mut S, chunk: &mut [u8], most: u64) -> Result
     requires chunk { 0 < length chunk.old }
     requires most { 0 < most }
     ensures size { IfOk result (λ n. (n ≤ length chunk.new) × (n ≤ most)) }
-    ensures taken { IfOk result (λ n. Takes (S.left commands.old) (take n chunk.new) (S.left commands.new)) }
-    ensures end { IfOk result (λ n. n ≡ 0 → IsSpent (S.left commands.old)) }
+    ensures taken { IfOk result (λ n. Consumes (S.left commands.old) (take n chunk.new) (S.left commands.new)) }
+    ensures end { IfOk result (λ n. n ≡ 0 → IsAtEnd (S.left commands.old)) }
     ensures kept { OnErr result (S.left commands.new ≡ S.left commands.old) }
-    ensures rose { OnErr result (Rose (S.faults commands.old) (S.faults commands.new)) }
-    ensures steady { OnOk result (S.faults commands.new ≡ S.faults commands.old) }
+    ensures fault_counted { OnErr result (FaultCounted (S.faults commands.old) (S.faults commands.new)) }
+    ensures faults_unchanged { OnOk result (S.faults commands.new ≡ S.faults commands.old) }
 {
     let room = (chunk.len() as u64).min(most) as usize;
     commands.read(&mut chunk[..room])
 }
 
 // Serves a stream, and leaves what it worked with as it is then.
-fn serve_stream<E: Engine, S: Source, K: Sink>(
+fn serve_stream<E: Engine, N: Noise, S: Source, K: Sink>(
     module: &mut Module<E>,
+    noise: &mut N,
     commands: &mut S,
     replies: &mut K,
     frames: &mut Frames,
@@ -62,13 +65,13 @@ fn serve_stream<E: Engine, S: Source, K: Sink>(
 ) -> Ended
     requires new { frames.old ≡ new_fragment }
     requires chunk { 0 < length chunk.old }
-    ensures served { (s : MachineState E) → Represents «module».old s → Serves E.calls result s «module».new
+    ensures served { (s : MachineState E) → Represents «module».old s → Explained (N.left noise.old) (N.left noise.new) (Serves E.calls result (length chunk.old) s «module».new
         (record { left = S.left commands.old; gained = K.gained replies.old })
-        (record { left = S.left commands.new; gained = K.gained replies.new }) }
-    ensures read_fault { result ≡ Ended.ReadFault → Rose (S.faults commands.old) (S.faults commands.new) }
-    ensures reads_steady { result ≢ Ended.ReadFault → S.faults commands.new ≡ S.faults commands.old }
-    ensures write_fault { result ≡ Ended.WriteFault → Rose (K.faults replies.old) (K.faults replies.new) }
-    ensures writes_steady { result ≢ Ended.WriteFault → K.faults replies.new ≡ K.faults replies.old }
+        (record { left = S.left commands.new; gained = K.gained replies.new })) }
+    ensures read_fault { result ≡ Ended.ReadFault → FaultCounted (S.faults commands.old) (S.faults commands.new) }
+    ensures reads_unchanged { result ≢ Ended.ReadFault → S.faults commands.new ≡ S.faults commands.old }
+    ensures write_fault { result ≡ Ended.WriteFault → FaultCounted (K.faults replies.old) (K.faults replies.new) }
+    ensures writes_unchanged { result ≢ Ended.WriteFault → K.faults replies.new ≡ K.faults replies.old }
 {
     let mut taken: u64 = 0;
     while taken < STREAM_MAX {
@@ -76,10 +79,10 @@ fn serve_stream<E: Engine, S: Source, K: Sink>(
             Err(_) => return Ended::ReadFault,
             Ok(0) => return end_of(frames),
             Ok(count) => {
-                match serve_piece(module, replies, frames, reply, &chunk[..count]) {
-                    Served::All => {}
-                    Served::BadFrame(offset) => return Ended::BadFrame(offset),
-                    Served::WriteFault => return Ended::WriteFault,
+                match serve_chunk(module, noise, replies, frames, reply, &chunk[..count]) {
+                    ChunkEnd::All => {}
+                    ChunkEnd::BadFrame(offset) => return Ended::BadFrame(offset),
+                    ChunkEnd::WriteFault => return Ended::WriteFault,
                 }
                 taken += count as u64;
             }
@@ -104,9 +107,10 @@ fn end_of(frames: &Frames) -> Ended
 /// Serves a stream of commands to its end: reads into the chunk, does each whole command in turn, writes its reply, and clears
 /// both. `frames` is new and the chunk isn't empty. As it returns, frames, reply and chunk are zero.
 ///
-/// No more than 2^40 bytes are asked for. Where a call on the source or the sink failed, the answer is that object's.
-pub fn serve<E: Engine, S: Source, K: Sink>(
+/// The noise is what the commands draw from. No more than 2^40 bytes are asked for, and none once those taken show a fault. Where a call on the source or the sink failed, the answer is that object's.
+pub fn serve<E: Engine, N: Noise, S: Source, K: Sink>(
     module: &mut Module<E>,
+    noise: &mut N,
     commands: &mut S,
     replies: &mut K,
     frames: &mut Frames,
@@ -115,19 +119,19 @@ pub fn serve<E: Engine, S: Source, K: Sink>(
 ) -> Ended
     requires new { frames.old ≡ new_fragment }
     requires chunk { 0 < length chunk.old }
-    ensures served { (s : MachineState E) → Represents «module».old s → Serves E.calls result s «module».new
+    ensures served { (s : MachineState E) → Represents «module».old s → Explained (N.left noise.old) (N.left noise.new) (Serves E.calls result (length chunk.old) s «module».new
         (record { left = S.left commands.old; gained = K.gained replies.old })
-        (record { left = S.left commands.new; gained = K.gained replies.new }) }
+        (record { left = S.left commands.new; gained = K.gained replies.new })) }
 
     // Each fault comes only where that object's count rose.
-    ensures read_fault { result ≡ Ended.ReadFault → Rose (S.faults commands.old) (S.faults commands.new) }
-    ensures reads_steady { result ≢ Ended.ReadFault → S.faults commands.new ≡ S.faults commands.old }
-    ensures write_fault { result ≡ Ended.WriteFault → Rose (K.faults replies.old) (K.faults replies.new) }
-    ensures writes_steady { result ≢ Ended.WriteFault → K.faults replies.new ≡ K.faults replies.old }
+    ensures read_fault { result ≡ Ended.ReadFault → FaultCounted (S.faults commands.old) (S.faults commands.new) }
+    ensures reads_unchanged { result ≢ Ended.ReadFault → S.faults commands.new ≡ S.faults commands.old }
+    ensures write_fault { result ≡ Ended.WriteFault → FaultCounted (K.faults replies.old) (K.faults replies.new) }
+    ensures writes_unchanged { result ≢ Ended.WriteFault → K.faults replies.new ≡ K.faults replies.old }
 
     ensures zero { (frames.new.bytes ≡ []) × IsCleared reply.new × (chunk.new ≡ replicate (length chunk.old) 0) }
 {
-    let ended = serve_stream(module, commands, replies, frames, reply, chunk);
+    let ended = serve_stream(module, noise, commands, replies, frames, reply, chunk);
     frames.clear();
     reply.clear();
     chunk.fill(0);

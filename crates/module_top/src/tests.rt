@@ -6,7 +6,7 @@ use crate::{Ended, RunFault, serve};
 use bits_core::{Enabled, Port};
 use engine_core::Shipped;
 use module_frames::{Fed, Frames, Reply};
-use outside::{MemSink, MemSource};
+use outside::{MemNoise, MemSink, MemSource};
 use state_model::Module;
 use std::alloc::Global;
 use std::test::Fail;
@@ -16,6 +16,7 @@ fn ending(alloc: Global, bytes: &[u8], step: usize) -> Result<Ended, Fail>
     requires { 1 ≤ step }
 {
     let mut module = Module::open(alloc, Shipped::new())?;
+    let mut noise = MemNoise::new(Vec::new(alloc));
     let mut frames = Frames::new(alloc)?;
     let mut reply = Reply::new(alloc)?;
     let mut chunk = vec![in alloc; 0; 100]?;
@@ -23,6 +24,7 @@ fn ending(alloc: Global, bytes: &[u8], step: usize) -> Result<Ended, Fail>
     let mut replies = MemSink::new(alloc, 2_000, 24, Vec::new(alloc))?;
     Ok(serve(
         &mut module,
+        &mut noise,
         &mut commands,
         &mut replies,
         &mut frames,

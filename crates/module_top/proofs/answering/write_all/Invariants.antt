@@ -1,12 +1,12 @@
 use Rattle.std.proofs.Common.{◌≡◌, ◌-◌, ◌≤◌, take, length}
-use Rattle.outside.specs.Contents.{Gains}
+use Rattle.outside.specs.Contents.{Appends}
 use Rattle.module_top.proofs.answering.write_all.Given as goal
 
 abbrev pub invariant-loop-done : goal.invariant-loop-done
 invariant-loop-done g l = record {
   within : l.done ≤ length l.piece;
-  gained : Gains (g.K.Sink.gained l.fn.sink) (take l.done l.piece) (g.K.Sink.gained l.sink);
-  steady : g.K.Sink.faults l.sink ≡ g.K.Sink.faults l.fn.sink;
+  gained : Appends (g.K.Sink.gained l.fn.sink) (take l.done l.piece) (g.K.Sink.gained l.sink);
+  faults_unchanged : g.K.Sink.faults l.sink ≡ g.K.Sink.faults l.fn.sink;
 }
 
 abbrev pub decreases-loop-done : goal.decreases-loop-done

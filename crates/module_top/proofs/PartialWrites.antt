@@ -2,12 +2,12 @@
 use Rattle.std.proofs.Common.{◌≡◌, ◌++◌, ◌+◌, ℕ, List, length, take, refl, ◌∙◌, length-append, arith, Option}
 use Rattle.std.proofs.lemmas.List.{take_at, drop_at, take-append-le}
 use Rattle.std.proofs.Math.Seq.{take-add}
-use Rattle.outside.specs.Contents.{Gains}
-use Rattle.outside.proofs.Runs.{gains_both}
-use Rattle.module_top.specs.Desk.{GainsPart}
+use Rattle.outside.specs.Contents.{Appends}
+use Rattle.outside.proofs.ConsecutiveCalls.{appends_both}
+use Rattle.module_top.specs.Chunks.{AppendsPart}
 
 -- the first failed
-pub part_in_front : (before now : Option (List ℕ)) (front back : List ℕ) → GainsPart before front now → GainsPart before (front ++ back) now
+pub part_in_front : (before now : Option (List ℕ)) (front back : List ℕ) → AppendsPart before front now → AppendsPart before (front ++ back) now
 part_in_front before now front back (k, less, gained) =
     (k, omega (arith, less, length-append front back), rw (take-append-le k front back (omega (arith, less))) gained)
 
@@ -15,6 +15,6 @@ take_behind : (k : ℕ) (front back : List ℕ) → take (length front + k) (fro
 take_behind k front back = take-add (length front) k (front ++ back) ∙ rw (take_at front back (length front) refl, drop_at front back (length front) refl) refl
 
 -- the first was written, and the second failed
-pub part_behind : (before mid now : Option (List ℕ)) (front back : List ℕ) → Gains before front mid → GainsPart mid back now → GainsPart before (front ++ back) now
+pub part_behind : (before mid now : Option (List ℕ)) (front back : List ℕ) → Appends before front mid → AppendsPart mid back now → AppendsPart before (front ++ back) now
 part_behind before mid now front back first (k, less, gained) =
-    (length front + k, omega (arith, less, length-append front back), rw (take_behind k front back) (gains_both before mid now front (take k back) first gained))
+    (length front + k, omega (arith, less, length-append front back), rw (take_behind k front back) (appends_both before mid now front (take k back) first gained))
