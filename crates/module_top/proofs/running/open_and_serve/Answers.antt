@@ -1,11 +1,15 @@
-use Rattle.std.proofs.Common.{[], refl, ap, Some, ◌∙◌}
-use Rattle.std.proofs.Common.{◌≡◌, List}
-use Rattle.outside.specs.declared.traits.Sample.{Sample}
+use Rattle.std.proofs.Common.{◌≡◌, ℕ, [], ap, subst, Some, length, ◌∙◌}
+use Rattle.std.proofs.lemmas.List.{length-replicate}
 use Rattle.outside.specs.Memory.{NoiseState}
 use Rattle.state_model.specs.MachineState.{initial_state}
+use Rattle.module_top.specs.Serving.{Serves}
 use Rattle.module_top.proofs.running.open_and_serve.Goals as goal
 
 pub returns-clause-served : goal.returns-clause-served
 returns-clause-served g c =
+    let long : length c.in_ok-chunk.chunk.items ≡ 65536 = ap length (c.in_ok-chunk.ensures.items_if_clones_equal (λ y h. h)) ∙ length-replicate {X = ℕ} 65536 0 in
     let served = (c.serve.ensures.served (initial_state c.args.engine) c.in_ok-module.ensures).told [] (ap (λ (noise : NoiseState). Some noise.left) c.new-noise.ensures ∙ ap Some c.new.ensures.items) in
-    (c.serve.new.module, served.0, served.2)
+    let By : ℕ → Type 0 = λ n. Serves g.E.Engine.calls c.serve.result n (initial_state c.args.engine) c.serve.new.module
+        (record { left = g.S.Source.left c.args.commands.now; gained = g.K.Sink.gained c.args.replies.now })
+        (record { left = g.S.Source.left c.serve.new.commands; gained = g.K.Sink.gained c.serve.new.replies }) [] served.0 in
+    (c.serve.new.module, served.0, subst By long served.2)
