@@ -1,4 +1,4 @@
-use Rattle.std.proofs.Common.{◌≡◌, ◌≤◌, ◌<◌, ◌+◌, ◌++◌, ℕ, suc, List, [], ◌∷◌, Option, Some, None, Bool, true, false, not, cond, map, take, drop, length, bytes_eq, nat_lt, position, remove, option_map, slice_index_or, slice_get, refl, sym, ◌∙◌, ap, rules, arith, add-one}
+use Rattle.std.proofs.Common.{◌≡◌, ◌+◌, ℕ, suc, List, [], ◌∷◌, Some, None, Bool, true, false, not, cond, map, take, drop, length, bytes_eq, position, remove, option_map, slice_index_or, slice_get, refl, sym, ◌∙◌, ap, rules, add-one}
 use Rattle.std.specs.List.{position_or_len}
 use Rattle.std.proofs.lemmas.Bool.{ltb-false}
 use Rattle.std.proofs.lemmas.List.{take-map, drop-map, map-append}
@@ -31,13 +31,13 @@ module _ {B A : Type 0} (f : B → List ℕ × A) (name : List ℕ) where
       let within = (position-Some is_named xs place d found).0 in
       let at = place_found _ (position_or_len is_named xs) place found in
       ap (option_map (λ e. e.1)) (find_at (has_name name) (map f xs) ∙ ap (slice_get (map f xs)) (place_mapped xs ∙ at)
-        ∙ slice_get-map f xs place ∙ ap (option_map f) (slice_get-get_or xs place d within))
+      ∙ slice_get-map f xs place ∙ ap (option_map f) (slice_get-get_or xs place d within))
 
   pub none_named : (xs : List B) → position is_named xs ≡ None → first_named name (map f xs) ≡ None
   none_named xs missing =
       let past = ltb-false (position_or_len is_named xs) (length xs) (place_missing _ _ missing) in
       ap (option_map (λ e. e.1)) (find_at (has_name name) (map f xs) ∙ ap (slice_get (map f xs)) (place_mapped xs)
-        ∙ slice_get-map f xs _ ∙ ap (option_map f) (slice_get_past xs _ past))
+      ∙ slice_get-map f xs _ ∙ ap (option_map f) (slice_get_past xs _ past))
 
   pub without_at : (xs : List B) (place : ℕ) → position is_named xs ≡ Some place → without_first name (map f xs) ≡ map f (remove xs place)
   without_at xs place found =

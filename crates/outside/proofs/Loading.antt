@@ -1,4 +1,4 @@
-use Rattle.std.proofs.Common.{◌≡◌, ◌≤◌, ◌<◌, ◌++◌, ℕ, List, [], Option, Some, None, Result, Ok, Err, IfSome, IfOk, OnErr, option_map, min, take, length, sym, ◌∙◌, ap, arith, length-take, take_all}
+use Rattle.std.proofs.Common.{◌≡◌, ◌<◌, ℕ, List, Option, Some, None, IfSome, option_map, min, take, length, ◌∙◌, ap, arith, length-take, take_all}
 
 -- fewer bytes than were asked for are all that there were
 pub all_of_fewer : (known : Option (List ℕ)) (most : ℕ) (got : List ℕ) → IfSome (option_map (take most) known) (λ xs. got ≡ xs) → length got < most

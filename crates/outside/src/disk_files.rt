@@ -43,7 +43,7 @@ fn open_to_read<R: RuntimeFiles>(runtime: &R, name: &str) -> Option<R::File> {
 }
 
 // The bytes of a reader, at most `limit`. It asks for one byte past them at most.
-fn read_within<T: Read + Drop>(
+pub(crate) fn read_within<T: Read + Drop>(
     alloc: Global,
     reader: T,
     limit: usize,

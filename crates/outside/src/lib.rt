@@ -4,9 +4,13 @@
 #[cfg(test)]
 mod adapter_tests;
 mod disk_files;
+#[cfg(test)]
+mod disk_tests;
 mod failure_plan;
 mod file_noise;
 mod files;
+#[cfg(test)]
+mod files_tests;
 mod memory_files;
 mod memory_noise;
 mod memory_sink;

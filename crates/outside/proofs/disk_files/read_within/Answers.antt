@@ -1,4 +1,4 @@
-use Rattle.std.proofs.Common.{rules, ◌≡◌, ◌<◌, ◌++◌, [], IfSome, option_map, take, length, arith}
+use Rattle.std.proofs.Common.{◌≡◌, ◌<◌, ◌++◌, [], IfSome, option_map, take, length, arith}
 use Rattle.outside.proofs.Loading.{all_of_fewer}
 use Rattle.outside.proofs.disk_files.read_within.Goals as goal
 
