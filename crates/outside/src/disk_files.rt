@@ -11,7 +11,7 @@ use std::marker::Model;
 use std::rt::Files as RuntimeFiles;
 
 /// The files of a runtime; a name is a path. They tell no content. A name that can't be opened or
-/// read, as a folder's, is a fault.
+/// read, as a folder's, is a fault. A named pipe is waited for, until its other end is opened.
 #[derive(Drop)]
 pub struct DiskFiles<'a, R> {
     runtime: &'a R,

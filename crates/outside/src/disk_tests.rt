@@ -39,7 +39,7 @@ fn disk_files_load_up_to_a_limit(rt: HostRuntime) -> Result<(), Fail> {
     Ok(())
 }
 
-// Gives this byte at each read, as often as it is asked, until the last read of so many fails.
+// Gives zeros, up to 100 a read, and fails once it has no reads left. It counts the bytes given.
 #[derive(Drop)]
 struct Endless {
     bytes_read: usize,
@@ -53,6 +53,7 @@ impl Read for Endless {
         }
         self.reads_left -= 1;
         let count = buf.len().min(100);
+        buf[..count].fill(0);
         self.bytes_read = self.bytes_read.saturating_add(count);
         Ok(count)
     }

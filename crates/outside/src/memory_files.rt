@@ -1,4 +1,4 @@
-// Files and noise that stand in memory.
+// Files and noise that come from memory.
 ghost use Rattle.std.specs.Prelude.{◌≡◌, ◌≢◌, ◌≤◌, ◌<◌, ◌+◌, ℕ, List, Some, None, true, false, Ok, Err, IfOk, IsErr, IfSome, IfNone, OnSome, OnOk, OnErr, MatchResult, length, map, position, remove, slice_index_or, bytes_eq, string_bytes, String};
 ghost use Rattle.std.specs.Global.{Global as Heap, Vec};
 ghost use Rattle.outside.specs.Faults.{FaultCounted, one_more};
@@ -102,6 +102,7 @@ impl Files for MemFiles {
 
     ghost faults = { λ files. files.plan.faults };
 
+    /// The bytes of the first file of this name. It fails for a listed call and a missing name alone.
     fn load(&mut self, alloc: Global, name: &str, limit: usize) -> Result<Vec<u8>, LoadFault>
         ensures size { IfOk result (λ bytes. length bytes.items ≤ limit) }
         ensures loaded { IfOk result (λ bytes. HasFile self.old.content name.now bytes.items) }
@@ -141,6 +142,7 @@ impl Files for MemFiles {
         }
     }
 
+    /// The first noise of this name. It fails for a listed call and a missing name alone.
     fn noise(&mut self, name: &str) -> Result<MemNoise, Failed>
         ensures handed { IfOk result (λ stream. HandsOver self.old.content name.now (Some stream.left) (Some self.new.content)) }
         ensures kept { IsErr result → Some self.new.content ≡ Some self.old.content }
