@@ -1,8 +1,9 @@
-use Rattle.std.specs.Prelude.{◌+◌, ◌-◌, ◌^◌, ◌==◌, min, ℕ, Bool, List, length}
+use Rattle.std.specs.Prelude.{◌+◌, ◌-◌, ◌^◌, ◌==◌, min, ℕ, Bool, List, String, Vec, string_bytes, length}
 use Rattle.std.specs.List.{list_any}
 use Rattle.outside.specs.declared.traits.Sample.{Sample}
 use Rattle.outside.specs.declared.traits.Sample.TheVariants as sample
 use Rattle.outside.specs.Faults.{one_more}
+use Rattle.outside.specs.FilesContent.{FilesContent}
 
 -- the number of a call is in this list
 abbrev pub is_listed : List ℕ → ℕ → Bool
@@ -49,3 +50,12 @@ abbrev pub faults_after : Sample → ℕ → ℕ
 faults_after (sample.Byte byte) faults = faults
 faults_after sample.Ended faults = faults
 faults_after sample.Failed faults = one_more faults
+
+-- what contracts see of an entry: its name and its content
+abbrev pub entry_of : {Y Z A : Type 0} → String Y × Vec A Z → List ℕ × List A
+entry_of entry = (string_bytes entry.0, entry.1.items)
+
+-- files in memory: their content and their calls
+pub record FilesState : Type 0 where
+  pub content : FilesContent
+  pub plan : FailurePlan

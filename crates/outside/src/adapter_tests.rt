@@ -1,5 +1,5 @@
 // What the contracts of the adapters cannot see, since they tell no content.
-use crate::{Failed, Sink, Source, StdSink, StdSource};
+use crate::{Failed, FileNoise, Noise, Sample, Sink, Source, StdSink, StdSource};
 use std::io::{Error, ErrorKind, Read, Write};
 use std::test::Fail;
 
@@ -176,6 +176,20 @@ fn std_sink_asks_again_after_a_signal_alone(rt: HostRuntime) -> Result<(), Fail>
         let mut writer = Faulty::new(error, errors);
         assert_eq!(rt; StdSink::new(&mut writer).write(b"abcd"), want);
         assert_eq!(rt; writer.calls, calls);
+    }
+    Ok(())
+}
+
+#[test]
+fn file_noise_asks_again_after_a_signal_alone(rt: HostRuntime) -> Result<(), Fail> {
+    for (error, errors, want, calls) in ROWS {
+        let mut reader = Faulty::new(error, errors);
+        let sample = match want {
+            Ok(_) => Sample::Byte(b'x'),
+            Err(Failed) => Sample::Failed,
+        };
+        assert_eq!(rt; FileNoise::new(&mut reader).next(), sample);
+        assert_eq!(rt; reader.calls, calls);
     }
     Ok(())
 }

@@ -1,9 +1,17 @@
-//! What the module meets outside: bytes that come, bytes that go and noise, each with its faults counted.
+//! What the module meets outside: bytes that come, bytes that go, noise and files, each with its faults counted.
 #![tactic(auto)]
 
 #[cfg(test)]
 mod adapter_tests;
+mod disk_files;
+#[cfg(test)]
+mod disk_tests;
 mod failure_plan;
+mod file_noise;
+mod files;
+#[cfg(test)]
+mod files_tests;
+mod memory_files;
 mod memory_noise;
 mod memory_sink;
 mod memory_source;
@@ -13,6 +21,10 @@ mod std_source;
 mod tests;
 mod traits;
 
+pub use disk_files::DiskFiles;
+pub use file_noise::FileNoise;
+pub use files::{Files, LoadFault};
+pub use memory_files::MemFiles;
 pub use memory_noise::MemNoise;
 pub use memory_sink::MemSink;
 pub use memory_source::MemSource;

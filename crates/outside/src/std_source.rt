@@ -37,7 +37,7 @@ impl<R> StdSource<R> {
 }
 
 // One read. None where the reader failed.
-fn read_once<R: Read>(reader: &mut R, into: &mut [u8]) -> Option<usize>
+pub(crate) fn read_once<R: Read>(reader: &mut R, into: &mut [u8]) -> Option<usize>
     ensures { MatchOption result (Keeps (R.remaining reader.old) (R.remaining reader.new)) (λ n. (n ≤ length into.old)
         × ReaderConsumes (R.remaining reader.old) (R.remaining reader.new) (take n into.new)
         × (n ≡ 0 → 0 < length into.old → ReaderIsAtEnd (R.remaining reader.new))) }
