@@ -1,0 +1,7 @@
+pub mod Places
+pub mod Sums
+pub mod Tower
+pub mod Turns
+pub mod Counts
+pub mod Parts
+pub mod Steps
