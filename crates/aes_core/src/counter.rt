@@ -12,7 +12,7 @@ pub fn gctr(schedule: &Schedule, start: &[u8; 16], text: &mut [u8])
     requires { 0 < schedule.now.rounds }
     ensures { (key : List ℕ) → IsExpanded schedule.now key → text.new ≡ gctr (aes key) start.now text.old }
 {
-    gctr_plain(schedule, start, text);
+    schedule.add_stream(start, text);
 }
 
 /// As `gctr`, block by block.

@@ -1,12 +1,14 @@
 //! A key's schedule, and the cipher under it.
 ghost use Rattle.std.specs.Prelude.{◌≡◌, ◌<◌, ◌≤◌, List, ℕ, length, IsTrue};
 ghost use Rattle.bits_core.specs.Parameters.{is_aes_length};
-ghost use Rattle.aes_spec.specs.Aes.{cipher, inverse_cipher};
+ghost use Rattle.aes_spec.specs.Aes.{inverse_cipher};
+ghost use Rattle.aes_spec.specs.Gctr.{gctr};
 ghost use Rattle.aes_spec.specs.Key.{words_state, aes, aes_inverse};
 ghost use Rattle.aes_core.specs.Schedules.{blank, IsExpanded};
 
 use crate::expansion;
-use crate::rounds::{add_key, inverse_last_round, last_round, middle_round, round_key, unmix};
+use crate::rounds::{add_key, inverse_last_round, unmix};
+use aes_lanes::round_key;
 use std::marker::Model;
 
 /// The round keys of an AES key, or zeros. Contracts see the number of rounds and the sixty words.
@@ -61,7 +63,7 @@ impl Schedule {
         requires { 0 < self.now.rounds }
         ensures { (key : List ℕ) → IsExpanded self.now key → block.new ≡ aes key block.old }
     {
-        *block = enciphered(&self.words, self.rounds, *block);
+        *block = aes_lanes::enciphered(&self.words, self.rounds, *block);
     }
 
     /// Deciphers a block under the key that was expanded (FIPS 197, section 5.3).
@@ -71,6 +73,14 @@ impl Schedule {
     {
         *block = deciphered(&self.words, self.rounds, *block);
     }
+
+    /// Adds the key stream from the block `start` on to a text, under the key that was expanded.
+    pub(crate) fn add_stream(&self, start: &[u8; 16], text: &mut [u8])
+        requires { 0 < self.now.rounds }
+        ensures { (key : List ℕ) → IsExpanded self.now key → text.new ≡ gctr (aes key) start.now text.old }
+    {
+        aes_lanes::add_stream(&self.words, self.rounds, start, text);
+    }
 }
 
 #[cfg(test)]
@@ -79,20 +89,6 @@ impl Schedule {
     pub(crate) fn last_key(&self) -> [u8; 16] {
         round_key(&self.words, self.rounds)
     }
-}
-
-/// CIPHER() under the round keys of these words.
-fn enciphered(words: &[[u8; 4]; 60], rounds: usize, block: [u8; 16]) -> [u8; 16]
-    requires some { 0 < rounds }
-    requires most { rounds ≤ 14 }
-    ensures { result ≡ cipher (words_state words.now) rounds block }
-{
-    let mut state = add_key(block, round_key(words, 0));
-    for round in 1..rounds {
-        let mixed = middle_round(state, round_key(words, round));
-        state = mixed;
-    }
-    add_key(last_round(state), round_key(words, rounds))
 }
 
 /// INVCIPHER() under the round keys of these words.
