@@ -3,9 +3,7 @@
 
 mod counter;
 mod expansion;
-mod rounds;
 mod schedule;
-mod tables;
 
 pub use counter::{gctr, gctr_plain};
 pub use schedule::Schedule;

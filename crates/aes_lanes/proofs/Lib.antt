@@ -5,3 +5,4 @@ pub mod Turns
 pub mod Counts
 pub mod Parts
 pub mod Steps
+pub mod Inverses

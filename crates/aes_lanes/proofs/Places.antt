@@ -5,7 +5,8 @@ use Rattle.std.specs.List.{range_with_len}
 use Rattle.std.proofs.lemmas.Float.{T_from_true}
 use Rattle.std.proofs.lemmas.Simd.{Each1-get_or, Each1-from_get_or, SwzOk, SwzOk-from_Each1, swz_l, get_or-swz_l}
 use Rattle.aes_spec.proofs.EveryByte.{on_bytes}
-use Rattle.aes_lanes.specs.Nibbles.{read, is_place, inv_table, over_table, first_half, second_half, to_tower, last_sub}
+use Rattle.aes_lanes.specs.Nibbles.{read, is_place, first_half, second_half, to_tower, last_sub}
+use Rattle.aes_lanes.specs.declared.tables.TheConstants.{INV, OVER}
 use Rattle.aes_spec.specs.Field.{product, remainder, times, first_from, inverse, affine_bit, byte_of, affine, sub_byte}
 
 pub byte_at : (v : List ℕ) (j : ℕ) → (length v ≡ 16) × Each1 (Fits w8) v → j < 16 → slice_index v j < 256
@@ -46,13 +47,13 @@ high_place = at_bytes (λ b. is_place (b / 16)) refl
 pub sum_place : (b : ℕ) → b < 256 → is_place (bit_xor (b / 16) (bit_and b 15)) ≡ true
 sum_place = at_bytes (λ b. is_place (bit_xor (b / 16) (bit_and b 15))) refl
 
-pub first_place : (b : ℕ) → b < 256 → is_place (bit_xor (read inv_table (b / 16)) (read over_table (bit_and b 15))) ≡ true
+pub first_place : (b : ℕ) → b < 256 → is_place (bit_xor (read INV (b / 16)) (read OVER (bit_and b 15))) ≡ true
 unfolding read
-first_place = at_bytes (λ b. is_place (bit_xor (read inv_table (b / 16)) (read over_table (bit_and b 15)))) refl
+first_place = at_bytes (λ b. is_place (bit_xor (read INV (b / 16)) (read OVER (bit_and b 15)))) refl
 
-pub second_place : (b : ℕ) → b < 256 → is_place (bit_xor (read inv_table (bit_xor (b / 16) (bit_and b 15))) (read over_table (bit_and b 15))) ≡ true
+pub second_place : (b : ℕ) → b < 256 → is_place (bit_xor (read INV (bit_xor (b / 16) (bit_and b 15))) (read OVER (bit_and b 15))) ≡ true
 unfolding read
-second_place = at_bytes (λ b. is_place (bit_xor (read inv_table (bit_xor (b / 16) (bit_and b 15))) (read over_table (bit_and b 15)))) refl
+second_place = at_bytes (λ b. is_place (bit_xor (read INV (bit_xor (b / 16) (bit_and b 15))) (read OVER (bit_and b 15)))) refl
 
 pub p_place : (b : ℕ) → b < 256 → is_place (first_half b) ≡ true
 unfolding read first_half

@@ -3,7 +3,8 @@ use Rattle.std.proofs.Common.{◌≡◌, ℕ, zero, suc, ◌+◌, ◌*◌, ◌/�
 use Rattle.std.proofs.lemmas.Nat.{xor_mod, xor_shr, xor_of_8}
 use Rattle.aes_spec.specs.Field.{product, remainder, times, first_from, inverse, affine_bit, byte_of, affine, sub_byte}
 use Rattle.aes_spec.proofs.EveryByte.{on_bytes, sub_small, times_1_small, times_2_small, times_3_small}
-use Rattle.aes_lanes.specs.Nibbles.{read, first_half, second_half, to_tower, twice_sub, thrice_sub, last_sub, in_low, in_high}
+use Rattle.aes_lanes.specs.Nibbles.{read, first_half, second_half, to_tower, twice_sub, thrice_sub, last_sub}
+use Rattle.aes_lanes.specs.declared.tables.TheConstants.{IN_LOW, IN_HIGH}
 use Rattle.aes_lanes.specs.Rounds.{gap}
 use Rattle.aes_spec.proofs.Linear.{interchange}
 use Rattle.aes_lanes.proofs.Places.{sub_is}
@@ -14,13 +15,13 @@ use Rattle.aes_lanes.proofs.Sums.{one, plus, same_sum}
 nibble : (b : ℕ) → b < 256 → bit_and b 15 ≡ b % 16
 nibble = on_bytes (λ b. bit_and b 15) (λ b. b % 16) refl
 
-low_pair : (n : ℕ) → n < 256 → read in_low (bit_xor (n / 16) (n % 16)) ≡ bit_xor (read in_low (n / 16)) (read in_low (n % 16))
+low_pair : (n : ℕ) → n < 256 → read IN_LOW (bit_xor (n / 16) (n % 16)) ≡ bit_xor (read IN_LOW (n / 16)) (read IN_LOW (n % 16))
 unfolding read
-low_pair = on_bytes (λ n. read in_low (bit_xor (n / 16) (n % 16))) (λ n. bit_xor (read in_low (n / 16)) (read in_low (n % 16))) refl
+low_pair = on_bytes (λ n. read IN_LOW (bit_xor (n / 16) (n % 16))) (λ n. bit_xor (read IN_LOW (n / 16)) (read IN_LOW (n % 16))) refl
 
-high_pair : (n : ℕ) → n < 256 → read in_high (bit_xor (n / 16) (n % 16)) ≡ bit_xor (read in_high (n / 16)) (read in_high (n % 16))
+high_pair : (n : ℕ) → n < 256 → read IN_HIGH (bit_xor (n / 16) (n % 16)) ≡ bit_xor (read IN_HIGH (n / 16)) (read IN_HIGH (n % 16))
 unfolding read
-high_pair = on_bytes (λ n. read in_high (bit_xor (n / 16) (n % 16))) (λ n. bit_xor (read in_high (n / 16)) (read in_high (n % 16))) refl
+high_pair = on_bytes (λ n. read IN_HIGH (bit_xor (n / 16) (n % 16))) (λ n. bit_xor (read IN_HIGH (n / 16)) (read IN_HIGH (n % 16))) refl
 
 paired : (t : List ℕ) → ((n : ℕ) → n < 256 → read t (bit_xor (n / 16) (n % 16)) ≡ bit_xor (read t (n / 16)) (read t (n % 16)))
     → (x y : ℕ) → x < 16 → y < 16 → read t (bit_xor x y) ≡ bit_xor (read t x) (read t y)
@@ -35,9 +36,9 @@ unfolding to_tower
 tower_sum x y hx hy =
     let h : bit_xor x y < 256 = xor_of_8 x y hx hy in
     ap₂ bit_xor
-    (ap (read in_low) (nibble (bit_xor x y) h ∙ xor_mod x y 4) ∙ paired in_low low_pair (x % 16) (y % 16) (omega arith) (omega arith) ∙ sym (ap₂ (λ (v w : ℕ). bit_xor (read in_low v) (read in_low w)) (nibble x hx) (nibble y hy)))
-    (ap (read in_high) (xor_shr x y 4) ∙ paired in_high high_pair (x / 16) (y / 16) (omega arith) (omega arith))
-    ∙ interchange (read in_low (bit_and x 15)) (read in_low (bit_and y 15)) (read in_high (x / 16)) (read in_high (y / 16))
+    (ap (read IN_LOW) (nibble (bit_xor x y) h ∙ xor_mod x y 4) ∙ paired IN_LOW low_pair (x % 16) (y % 16) (omega arith) (omega arith) ∙ sym (ap₂ (λ (v w : ℕ). bit_xor (read IN_LOW v) (read IN_LOW w)) (nibble x hx) (nibble y hy)))
+    (ap (read IN_HIGH) (xor_shr x y 4) ∙ paired IN_HIGH high_pair (x / 16) (y / 16) (omega arith) (omega arith))
+    ∙ interchange (read IN_LOW (bit_and x 15)) (read IN_LOW (bit_and y 15)) (read IN_HIGH (x / 16)) (read IN_HIGH (y / 16))
 
 -- ---- multiples of the S-box, at each byte
 

@@ -18,7 +18,7 @@ fn shifted(v: Lanes) -> Lanes
 
 /// The bytes of each column, one row up.
 #[inline(always)]
-fn turned_1(v: Lanes) -> Lanes
+pub(crate) fn turned_1(v: Lanes) -> Lanes
     ensures { result ≡ slice_index v 1 ∷ slice_index v 2 ∷ slice_index v 3 ∷ slice_index v 0 ∷ slice_index v 5 ∷ slice_index v 6 ∷ slice_index v 7 ∷ slice_index v 4 ∷ slice_index v 9 ∷ slice_index v 10 ∷ slice_index v 11 ∷ slice_index v 8 ∷ slice_index v 13 ∷ slice_index v 14 ∷ slice_index v 15 ∷ slice_index v 12 ∷ [] }
 {
     v.shuffle(v, [1, 2, 3, 0, 5, 6, 7, 4, 9, 10, 11, 8, 13, 14, 15, 12])
@@ -26,7 +26,7 @@ fn turned_1(v: Lanes) -> Lanes
 
 /// Two rows up.
 #[inline(always)]
-fn turned_2(v: Lanes) -> Lanes
+pub(crate) fn turned_2(v: Lanes) -> Lanes
     ensures { result ≡ slice_index v 2 ∷ slice_index v 3 ∷ slice_index v 0 ∷ slice_index v 1 ∷ slice_index v 6 ∷ slice_index v 7 ∷ slice_index v 4 ∷ slice_index v 5 ∷ slice_index v 10 ∷ slice_index v 11 ∷ slice_index v 8 ∷ slice_index v 9 ∷ slice_index v 14 ∷ slice_index v 15 ∷ slice_index v 12 ∷ slice_index v 13 ∷ [] }
 {
     v.shuffle(v, [2, 3, 0, 1, 6, 7, 4, 5, 10, 11, 8, 9, 14, 15, 12, 13])
@@ -34,7 +34,7 @@ fn turned_2(v: Lanes) -> Lanes
 
 /// Three rows up.
 #[inline(always)]
-fn turned_3(v: Lanes) -> Lanes
+pub(crate) fn turned_3(v: Lanes) -> Lanes
     ensures { result ≡ slice_index v 3 ∷ slice_index v 0 ∷ slice_index v 1 ∷ slice_index v 2 ∷ slice_index v 7 ∷ slice_index v 4 ∷ slice_index v 5 ∷ slice_index v 6 ∷ slice_index v 11 ∷ slice_index v 8 ∷ slice_index v 9 ∷ slice_index v 10 ∷ slice_index v 15 ∷ slice_index v 12 ∷ slice_index v 13 ∷ slice_index v 14 ∷ [] }
 {
     v.shuffle(v, [3, 0, 1, 2, 7, 4, 5, 6, 11, 8, 9, 10, 15, 12, 13, 14])

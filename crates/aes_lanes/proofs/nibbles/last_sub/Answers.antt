@@ -1,5 +1,6 @@
 use Rattle.std.proofs.Common.{ap, ap₂, ◌∙◌, bit_xor, slice_index}
-use Rattle.aes_lanes.specs.Nibbles.{read, is_place, last_sub, last_p, last_q}
+use Rattle.aes_lanes.specs.Nibbles.{read, is_place, last_sub}
+use Rattle.aes_lanes.specs.declared.tables.TheConstants.{LAST_P, LAST_Q}
 use Rattle.aes_lanes.proofs.Places.{byte_at, p_place, q_place}
 use Rattle.aes_lanes.proofs.nibbles.last_sub.Goals as goal
 
@@ -13,4 +14,4 @@ pub returns : goal.returns
 unfolding last_sub
 returns c j h =
     c.sum.ensures j h
-    ∙ ap₂ bit_xor (c.look_up.ensures j h ∙ ap (read last_p) (c.halves.ensures.p j h)) (c.look_up-2.ensures j h ∙ ap (read last_q) (c.halves.ensures.q j h))
+    ∙ ap₂ bit_xor (c.look_up.ensures j h ∙ ap (read LAST_P) (c.halves.ensures.p j h)) (c.look_up-2.ensures j h ∙ ap (read LAST_Q) (c.halves.ensures.q j h))

@@ -1,7 +1,7 @@
 use Rattle.std.proofs.Common.{◌≡◌, ◌≤◌, ◌<◌, ◌+◌, ◌-◌, ℕ, List, suc, ap, sym, ◌∙◌, arith}
 use Rattle.aes_spec.specs.Aes.{add_round_key, inv_sub_bytes, inv_shift_rows, inv_mix_columns, unmixed_rounds, inverse_cipher}
 use Rattle.aes_spec.specs.Key.{words_state}
-use Rattle.aes_core.proofs.schedule.deciphered.Goals as goal
+use Rattle.aes_lanes.proofs.inverse.deciphered.Goals as goal
 
 -- one round back, where `left` rounds with mixing are still to undo
 one_back : (w : ℕ → List ℕ) (rounds done : ℕ) (st : List ℕ) → done < rounds
@@ -19,7 +19,7 @@ unfolding inverse_cipher
 loop-done-init c =
     let w = words_state c.args.words.now in
     ap (unmixed_rounds w (c.args.rounds - 1))
-    (c.inverse_last_round-state.ensures
+    (c.unsubstituted-state.ensures
     ∙ ap (λ (t : List ℕ). inv_sub_bytes (inv_shift_rows t)) (c.add_key.ensures ∙ ap (λ (k : List ℕ). add_round_key k c.args.block) c.round_key.ensures))
 
 pub loop-done-preserved : goal.loop-done-preserved
@@ -27,9 +27,9 @@ loop-done-preserved c =
     let w = words_state c.args.words.now in
     let done = c.loop-done.done in
     ap (unmixed_rounds w (c.args.rounds - (done + 1)))
-    (c.inverse_last_round-state-in-loop-done.ensures
+    (c.unsubstituted-state-in-loop-done.ensures
     ∙ ap (λ (t : List ℕ). inv_sub_bytes (inv_shift_rows t))
-    (c.unmix.ensures ∙ ap inv_mix_columns (c.add_key-unkeyed.ensures ∙ ap (λ (k : List ℕ). add_round_key k c.loop-done.state) c.round_key-in-loop-done.ensures)))
+    (c.unmixed.ensures ∙ ap inv_mix_columns (c.add_key-unkeyed.ensures ∙ ap (λ (k : List ℕ). add_round_key k c.loop-done.state) c.round_key-in-loop-done.ensures)))
     ∙ one_back w c.args.rounds done c.loop-done.state c.loop-done-test.true
     ∙ c.loop-done.invariant
 

@@ -1,7 +1,7 @@
 use Rattle.std.proofs.Common.{◌≡◌, ◌-◌}
 use Rattle.aes_spec.specs.Aes.{unmixed_rounds, inverse_cipher}
 use Rattle.aes_spec.specs.Key.{words_state}
-use Rattle.aes_core.proofs.schedule.deciphered.Given as goal
+use Rattle.aes_lanes.proofs.inverse.deciphered.Given as goal
 
 abbrev pub invariant-loop-done : goal.invariant-loop-done
 invariant-loop-done l =

@@ -1,0 +1,10 @@
+use Rattle.std.proofs.Common.{ap, ap₂, ◌∙◌, bit_xor, slice_index}
+use Rattle.aes_lanes.specs.Nibbles.{read, by_nibbles, is_place}
+use Rattle.aes_lanes.proofs.Places.{byte_at, low_place, high_place}
+use Rattle.aes_lanes.proofs.inverse.by_nibbles.Goals as goal
+
+pub returns : goal.returns
+unfolding by_nibbles
+returns c j h =
+    c.sum.ensures j h
+    ∙ ap₂ bit_xor (c.look_up.ensures j h ∙ ap (read c.args.lows) (c.low.ensures j h)) (c.look_up-2.ensures j h ∙ ap (read c.args.highs) (c.high.ensures j h))
