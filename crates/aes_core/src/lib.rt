@@ -5,7 +5,7 @@ mod counter;
 mod expansion;
 mod schedule;
 
-pub use counter::{gctr, gctr_plain};
+pub use counter::{gctr, gctr_lanes, gctr_plain};
 pub use schedule::Schedule;
 
 #[cfg(test)]

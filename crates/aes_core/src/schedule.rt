@@ -78,6 +78,14 @@ impl Schedule {
     {
         aes_lanes::add_stream(&self.words, self.rounds, start, text);
     }
+
+    /// As `add_stream`, with SBOX() as a power.
+    pub(crate) fn add_stream_by_powers(&self, start: &[u8; 16], text: &mut [u8])
+        requires { 0 < self.now.rounds }
+        ensures { (key : List ℕ) → IsExpanded self.now key → text.new ≡ gctr (aes key) start.now text.old }
+    {
+        aes_lanes::add_stream_by_powers(&self.words, self.rounds, start, text);
+    }
 }
 
 #[cfg(test)]

@@ -6,3 +6,4 @@ pub mod Counts
 pub mod Parts
 pub mod Steps
 pub mod Inverses
+pub mod Products

@@ -1,3 +1,4 @@
 pub mod Nibbles
+pub mod Powers
 pub mod Rounds
 pub mod Streams

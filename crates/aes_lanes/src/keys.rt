@@ -30,7 +30,7 @@ pub fn round_key(words: &[[u8; 4]; 60], round: usize) -> [u8; 16]
 
 /// Each byte of a vector in all lanes of a vector of its own.
 #[inline(always)]
-fn spread(v: Lanes) -> Blocks
+pub(crate) fn spread(v: Lanes) -> Blocks
     ensures { (r j : ℕ) → r < 16 → j < 16 → byte result j r ≡ slice_index v r }
 {
     let b = v.to_array();

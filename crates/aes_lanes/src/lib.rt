@@ -4,6 +4,9 @@
 mod inverse;
 mod keys;
 mod nibbles;
+mod power_rounds;
+mod power_stream;
+mod powers;
 mod single;
 mod sixteen;
 mod stream;
@@ -11,5 +14,6 @@ mod tables;
 
 pub use inverse::deciphered;
 pub use keys::round_key;
+pub use power_stream::add_stream_by_powers;
 pub use single::{enciphered, sub_word};
 pub use stream::add_stream;

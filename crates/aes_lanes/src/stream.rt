@@ -13,7 +13,7 @@ use crate::sixteen::{Blocks, enciphered, transposed};
 use std::simd::prelude::*;
 
 /// The blocks of a group, which is enciphered at once.
-const GROUP: usize = 16;
+pub(crate) const GROUP: usize = 16;
 
 /// From so many bytes on a group at the end that isn't whole costs less at once than block by block.
 const HALF_GROUP: usize = 128;
@@ -44,7 +44,7 @@ fn places() -> Lanes
 
 /// The bytes of sixteen counts from `count` on, the lowest last.
 #[inline(always)]
-fn counts(count: u32) -> (Lanes, Lanes, Lanes, Lanes)
+pub(crate) fn counts(count: u32) -> (Lanes, Lanes, Lanes, Lanes)
     ensures fourth { (j : ℕ) → j < 16 → slice_index result.0 j ≡ (count + j) / 16777216 % 256 }
     ensures third { (j : ℕ) → j < 16 → slice_index result.1 j ≡ (count + j) / 65536 % 256 }
     ensures second { (j : ℕ) → j < 16 → slice_index result.2 j ≡ (count + j) / 256 % 256 }
@@ -101,7 +101,7 @@ fn add_block(text: &mut [u8], at: usize, stream: Lanes)
 
 /// Adds sixteen blocks of the stream.
 #[inline(always)]
-fn add_blocks(text: &mut [u8], at: usize, stream: &Blocks)
+pub(crate) fn add_blocks(text: &mut [u8], at: usize, stream: &Blocks)
     requires { at + 256 ≤ length text.old }
     ensures before { (p : ℕ) → p < at → slice_index text.new p ≡ slice_index text.old p }
     ensures within { (p : ℕ) → at ≤ p → p < at + 256 → slice_index text.new p ≡ bit_xor (slice_index text.old p) (byte stream.now ((p - at) % 16) ((p - at) / 16)) }
