@@ -1,8 +1,7 @@
 -- Lanes, and the power 254 byte by byte.
-use Rattle.std.proofs.Common.{◌≡◌, ℕ, zero, suc, ◌+◌, ◌*◌, ◌/◌, ◌%◌, ◌^◌, ◌<◌, Bool, true, false, cond, leb, List, map, get_or, refl, sym, ap, ap₂, ◌∙◌, arith, bit_xor, replicate, length, Fits, w8, slice_index}
-use lib.Lanes.{zip2, sel_l, top, Each1}
-use Rattle.std.specs.List.{range_with_len}
-use Rattle.std.proofs.lemmas.Simd.{get_or-zip2, get_or-sel_l, tops_compared, get_or-replicate, length-replicate, length-zip2, Each1-get_or}
+use Rattle.std.proofs.Common.{◌≡◌, ℕ, ◌<◌, Bool, true, false, cond, leb, List, map, get_or, refl, sym, ap, ap₂, ◌∙◌, arith, bit_xor, replicate, length, w8}
+use lib.Lanes.{zip2, sel_l, top}
+use Rattle.std.proofs.lemmas.Simd.{get_or-zip2, get_or-sel_l, tops_compared, get_or-replicate, length-zip2}
 use Rattle.aes_spec.specs.Field.{product, remainder, times, first_from, inverse, affine_bit, byte_of, affine, sub_byte}
 use Rattle.aes_spec.proofs.EveryByte.{on_bytes}
 use Rattle.aes_spec.proofs.Linear.{times_sum}

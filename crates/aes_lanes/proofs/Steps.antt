@@ -1,5 +1,5 @@
 -- The rounds, one after the other.
-use Rattle.std.proofs.Common.{◌≡◌, ◌<◌, ◌≤◌, ◌+◌, ◌-◌, ℕ, zero, suc, List, ap, sym, ◌∙◌, arith}
+use Rattle.std.proofs.Common.{◌≡◌, ◌≤◌, ◌+◌, ◌-◌, ℕ, zero, suc, List, ap, sym, ◌∙◌, arith}
 use Rattle.aes_spec.specs.Aes.{IsState, add_round_key, sub_bytes, shift_rows, mix_columns, mixed_rounds}
 use Rattle.aes_spec.proofs.States.{sub_state, shift_state, mix_state, add_state}
 

@@ -1,6 +1,5 @@
-use Rattle.std.proofs.Common.{ap, ap₂, ◌∙◌, bit_xor, slice_index}
-use Rattle.aes_lanes.specs.Nibbles.{read, by_nibbles, is_place}
-use Rattle.aes_lanes.proofs.Places.{byte_at, low_place, high_place}
+use Rattle.std.proofs.Common.{ap, ap₂, ◌∙◌, bit_xor}
+use Rattle.aes_lanes.specs.Nibbles.{read, by_nibbles}
 use Rattle.aes_lanes.proofs.inverse.by_nibbles.Goals as goal
 
 pub returns : goal.returns

@@ -1,6 +1,6 @@
-use Rattle.std.proofs.Common.{ℕ, ◌<◌, ap, ap₂, ◌∙◌, bit_xor, slice_index}
-use Rattle.aes_lanes.specs.Nibbles.{read, is_place, first_half, second_half, by_nibbles}
-use Rattle.aes_lanes.specs.declared.tables.TheConstants.{UNSUB_LOW, UNSUB_HIGH, INVERSE_P, INVERSE_Q}
+use Rattle.std.proofs.Common.{ap, ap₂, ◌∙◌, bit_xor, slice_index}
+use Rattle.aes_lanes.specs.Nibbles.{read, is_place, first_half, second_half}
+use Rattle.aes_lanes.specs.declared.tables.TheConstants.{INVERSE_P, INVERSE_Q}
 use Rattle.aes_lanes.proofs.Places.{byte_at}
 use Rattle.aes_lanes.proofs.Inverses.{unsub_p_place, unsub_q_place, inverse_sub_is}
 use Rattle.aes_lanes.proofs.inverse.inverse_sub.Goals as goal

@@ -5,7 +5,7 @@ use Rattle.std.proofs.lemmas.List.{get_or-set_other, length-set}
 use Rattle.aes_spec.specs.Aes.{IsState}
 use Rattle.aes_spec.specs.Key.{words_state}
 use Rattle.aes_lanes.specs.Nibbles.{to_tower}
-use Rattle.aes_lanes.specs.Rounds.{byte, IsInTower, IsKeyInTower, IsLastKey}
+use Rattle.aes_lanes.specs.Rounds.{byte}
 use Rattle.aes_lanes.proofs.keys.prepared.Goals as goal
 
 kept : (v : List (List (List ℕ))) (i n : ℕ) (x : List (List ℕ)) (j r : ℕ) → n < i → byte (slice_index_or (slice_set v i x) n []) j r ≡ byte (slice_index_or v n []) j r

@@ -1,4 +1,4 @@
-use Rattle.std.proofs.Common.{◌≡◌, ℕ, List, [], ◌∷◌, ap₂, ◌∙◌, arith, bit_xor, slice_index}
+use Rattle.std.proofs.Common.{◌≡◌, ℕ, [], ◌∷◌, ap₂, ◌∙◌, arith, bit_xor, slice_index}
 use Rattle.aes_spec.specs.Aes.{add_round_key}
 use Rattle.aes_lanes.specs.Rounds.{byte}
 use Rattle.aes_lanes.proofs.Tower.{below_16}

@@ -1,4 +1,4 @@
-use Rattle.std.proofs.Common.{◌≡◌, ℕ, List, [], ◌∷◌, ◌∙◌, arith, bit_xor, slice_index}
+use Rattle.std.proofs.Common.{◌≡◌, ℕ, [], ◌∷◌, ◌∙◌, arith, bit_xor, slice_index}
 use Rattle.aes_spec.specs.Field.{times}
 use Rattle.aes_spec.specs.Aes.{mix_columns}
 use Rattle.aes_lanes.specs.Rounds.{byte}

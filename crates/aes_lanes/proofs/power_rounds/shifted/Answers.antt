@@ -1,4 +1,4 @@
-use Rattle.std.proofs.Common.{◌≡◌, ℕ, List, [], ◌∷◌, arith, slice_index, slice_index_or}
+use Rattle.std.proofs.Common.{◌≡◌, ℕ, [], ◌∷◌, arith, slice_index, slice_index_or}
 use Rattle.aes_spec.specs.Aes.{shift_rows}
 use Rattle.aes_lanes.specs.Rounds.{byte}
 use Rattle.aes_lanes.proofs.Tower.{below_16}

@@ -1,4 +1,4 @@
-use Rattle.std.proofs.Common.{◌≡◌, ◌<◌, ℕ, List, refl, ap, ◌∙◌, slice_index}
+use Rattle.std.proofs.Common.{◌≡◌, ℕ, refl, ap, ◌∙◌, slice_index}
 use Rattle.aes_spec.specs.Field.{sub_byte}
 use Rattle.aes_spec.specs.Aes.{sub_bytes}
 use Rattle.aes_lanes.proofs.Tower.{below_16}

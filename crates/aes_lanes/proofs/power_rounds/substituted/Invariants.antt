@@ -1,4 +1,4 @@
-use Rattle.std.proofs.Common.{◌≡◌, ◌<◌, ◌≤◌, length, ℕ}
+use Rattle.std.proofs.Common.{◌≡◌, ◌<◌, length, ℕ}
 use Rattle.aes_spec.specs.Field.{sub_byte}
 use Rattle.aes_lanes.specs.Rounds.{byte}
 use Rattle.aes_lanes.proofs.power_rounds.substituted.Given as goal

@@ -1,4 +1,4 @@
-use Rattle.std.proofs.Common.{ℕ, ◌+◌, ◌∙◌}
+use Rattle.std.proofs.Common.{◌+◌, ◌∙◌}
 use Rattle.aes_lanes.specs.Streams.{with_count}
 use Rattle.aes_lanes.proofs.power_stream.group.Goals as goal
 

@@ -1,4 +1,4 @@
-use Rattle.std.proofs.Common.{subst, ◌≡◌, ◌-◌, ◌+◌, ◌<◌, ℕ, List, length, refl, ap, ap₂, sym, ◌∙◌, arith, bit_xor, slice_index}
+use Rattle.std.proofs.Common.{subst, ◌≡◌, ◌-◌, ◌<◌, ℕ, List, refl, ap, ap₂, sym, ◌∙◌, arith, bit_xor, slice_index}
 use Rattle.std.proofs.lemmas.Grind.{same_number_lists}
 use Rattle.aes_spec.specs.Aes.{IsState, add_round_key, sub_bytes, shift_rows, mix_columns, mixed_rounds, cipher}
 use Rattle.aes_spec.specs.Key.{words_state}

@@ -1,4 +1,4 @@
-use Rattle.std.proofs.Common.{◌≡◌, ◌-◌, ℕ, List, ap, ap₂, ◌∙◌, arith, slice_index, slice_index_or, []}
+use Rattle.std.proofs.Common.{◌≡◌, ◌-◌, ℕ, List, ap, ◌∙◌, arith, slice_index}
 use Rattle.aes_spec.specs.Aes.{add_round_key, sub_bytes, shift_rows, mixed_rounds, cipher}
 use Rattle.aes_lanes.proofs.Steps.{rounds_state, next_round}
 use Rattle.aes_lanes.specs.Nibbles.{to_tower}

@@ -1,6 +1,5 @@
-use Rattle.std.proofs.Common.{◌≡◌, ◌+◌, ◌*◌, ◌/◌, ℕ, length, ap₂, ◌∙◌, arith, bit_xor, refl}
+use Rattle.std.proofs.Common.{◌/◌, ℕ, length, ap₂, ◌∙◌, arith, bit_xor, refl}
 use Rattle.aes_spec.specs.Aes.{IsState, cipher}
-use Rattle.aes_lanes.specs.Streams.{Adds}
 use Rattle.aes_lanes.proofs.Parts.{same_past, group_byte}
 use Rattle.aes_lanes.proofs.stream.add_last_group.Goals as goal
 

@@ -1,7 +1,6 @@
-use Rattle.std.proofs.Common.{◌≡◌, ◌+◌, ◌*◌, ℕ, length, ap, ap₂, ◌∙◌, arith, bit_xor, refl}
+use Rattle.std.proofs.Common.{ap, ap₂, ◌∙◌, arith, bit_xor, refl}
 use Rattle.aes_spec.specs.Aes.{IsState, cipher}
 use Rattle.aes_spec.specs.Key.{words_state}
-use Rattle.aes_lanes.specs.Streams.{with_count}
 use Rattle.aes_lanes.proofs.Parts.{same_past, block_byte}
 use Rattle.aes_lanes.proofs.stream.add_single.Goals as goal
 

@@ -1,4 +1,4 @@
-use Rattle.std.proofs.Common.{◌*◌, ℕ, List}
+use Rattle.std.proofs.Common.{◌*◌}
 use Rattle.aes_spec.specs.Aes.{cipher}
 use Rattle.aes_spec.specs.Key.{words_state}
 use Rattle.aes_lanes.specs.Streams.{Adds}

@@ -1,4 +1,4 @@
-use Rattle.std.proofs.Common.{subst, ◌≡◌, ◌*◌, ℕ, List, length, sym}
+use Rattle.std.proofs.Common.{subst, ◌≡◌, ◌*◌, ℕ, List, sym}
 use Rattle.aes_spec.specs.Aes.{cipher}
 use Rattle.aes_spec.specs.Key.{words_state}
 use Rattle.aes_lanes.specs.Streams.{Adds}
