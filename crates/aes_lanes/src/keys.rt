@@ -54,7 +54,7 @@ pub(crate) fn spread(v: Lanes) -> Blocks
     ]
 }
 
-/// The first round key.
+/// The first round key, in the tower.
 #[inline(always)]
 fn first_key(key: [u8; 16]) -> Blocks
     ensures state { IsState key }
@@ -63,7 +63,7 @@ fn first_key(key: [u8; 16]) -> Blocks
     spread(to_tower(Lanes::from_array(key)))
 }
 
-/// The key of a round with MIXCOLUMNS().
+/// The key of a round with MIXCOLUMNS(): with the S-box's constant, in the tower.
 #[inline(always)]
 fn mixed_key(key: [u8; 16]) -> Blocks
     ensures state { IsState key }
@@ -72,7 +72,7 @@ fn mixed_key(key: [u8; 16]) -> Blocks
     spread(to_tower(sum(Lanes::from_array(key), splat(0x63))))
 }
 
-/// The key of the last round.
+/// The key of the last round, with the S-box's constant.
 #[inline(always)]
 fn last_key(key: [u8; 16]) -> Blocks
     ensures state { IsState key }

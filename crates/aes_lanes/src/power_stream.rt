@@ -58,7 +58,8 @@ fn add_groups(words: &[[u8; 4]; 60], rounds: usize, start: &[u8; 16], text: &mut
     }
 }
 
-/// As `add_stream`, with SBOX() as the power 254 of a byte; what is left after the whole groups goes block by block.
+/// As `add_stream`, with SBOX() as the power 254 of a byte; what is left after the whole groups goes block
+/// by block.
 pub fn add_stream_by_powers(words: &[[u8; 4]; 60], rounds: usize, start: &[u8; 16], text: &mut [u8])
     requires some { 0 < rounds }
     requires most { rounds ≤ 14 }

@@ -8,15 +8,15 @@ use crate::keys::round_key;
 use crate::nibbles::{Lanes, last_sub, multiples, splat, sub, sum, to_tower};
 use std::simd::prelude::*;
 
-/// ShiftRows.
+/// SHIFTROWS() (FIPS 197, section 5.1.2).
 #[inline(always)]
 fn shifted(v: Lanes) -> Lanes
-    ensures { result ≡ slice_index v 0 ∷ slice_index v 5 ∷ slice_index v 10 ∷ slice_index v 15 ∷ slice_index v 4 ∷ slice_index v 9 ∷ slice_index v 14 ∷ slice_index v 3 ∷ slice_index v 8 ∷ slice_index v 13 ∷ slice_index v 2 ∷ slice_index v 7 ∷ slice_index v 12 ∷ slice_index v 1 ∷ slice_index v 6 ∷ slice_index v 11 ∷ [] }
+    ensures { result ≡ shift_rows v }
 {
     v.shuffle(v, [0, 5, 10, 15, 4, 9, 14, 3, 8, 13, 2, 7, 12, 1, 6, 11])
 }
 
-/// The bytes of each column, one row up.
+/// The bytes of each column, each one row up.
 #[inline(always)]
 pub(crate) fn turned_1(v: Lanes) -> Lanes
     ensures { result ≡ slice_index v 1 ∷ slice_index v 2 ∷ slice_index v 3 ∷ slice_index v 0 ∷ slice_index v 5 ∷ slice_index v 6 ∷ slice_index v 7 ∷ slice_index v 4 ∷ slice_index v 9 ∷ slice_index v 10 ∷ slice_index v 11 ∷ slice_index v 8 ∷ slice_index v 13 ∷ slice_index v 14 ∷ slice_index v 15 ∷ slice_index v 12 ∷ [] }
@@ -40,6 +40,8 @@ pub(crate) fn turned_3(v: Lanes) -> Lanes
     v.shuffle(v, [3, 0, 1, 2, 7, 4, 5, 6, 11, 8, 9, 10, 15, 12, 13, 14])
 }
 
+/// A round with MIXCOLUMNS(). With d_i = {03} s_i + {02} s_(i+1) each byte is the sum of the three other d of
+/// its column.
 #[inline(always)]
 fn single_round(v: Lanes, k: Lanes) -> Lanes
     ensures { (s key : List ℕ) → IsState s → IsState key → IsLanes v s → IsKeyLanes k key → IsLanes result (add_round_key key (mix_columns (shift_rows (sub_bytes s)))) }
@@ -49,6 +51,7 @@ fn single_round(v: Lanes, k: Lanes) -> Lanes
     sum(sum(sum(turned_1(d), turned_2(d)), turned_3(d)), k)
 }
 
+/// The last round.
 #[inline(always)]
 fn last_single(v: Lanes, k: Lanes) -> Lanes
     ensures { (s key : List ℕ) → IsState s → IsLanes v s → ((r : ℕ) → r < 16 → slice_index k r ≡ bit_xor (slice_index key r) 99) → (r : ℕ) → r < 16 → slice_index result r ≡ slice_index (add_round_key key (shift_rows (sub_bytes s))) r }
@@ -56,6 +59,7 @@ fn last_single(v: Lanes, k: Lanes) -> Lanes
     sum(last_sub(shifted(v)), k)
 }
 
+/// A block, or the first round key, in the tower.
 #[inline(always)]
 fn first_lanes(key: [u8; 16]) -> Lanes
     ensures state { IsState key }
@@ -64,6 +68,7 @@ fn first_lanes(key: [u8; 16]) -> Lanes
     to_tower(Lanes::from_array(key))
 }
 
+/// The key of a round with MIXCOLUMNS(): with the S-box's constant, in the tower.
 #[inline(always)]
 fn mixed_lanes(key: [u8; 16]) -> Lanes
     ensures state { IsState key }
@@ -72,6 +77,7 @@ fn mixed_lanes(key: [u8; 16]) -> Lanes
     to_tower(sum(Lanes::from_array(key), splat(0x63)))
 }
 
+/// The key of the last round, with the S-box's constant.
 #[inline(always)]
 fn last_lanes(key: [u8; 16]) -> Lanes
     ensures state { IsState key }

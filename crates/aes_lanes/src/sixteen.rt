@@ -7,8 +7,11 @@ use crate::keys::Keys;
 use crate::nibbles::{Lanes, last_sub, multiples, sum};
 use std::simd::prelude::*;
 
+/// Sixteen blocks, or a round key for each.
 pub(crate) type Blocks = [Lanes; 16];
 
+/// A column after SBOX() and MIXCOLUMNS(), less the constants. With d_i = {03} s_i + {02} s_(i+1) each of the four
+/// sums is that of the three other d.
 #[inline(always)]
 fn column(a0: Lanes, a1: Lanes, a2: Lanes, a3: Lanes) -> (Lanes, Lanes, Lanes, Lanes)
     ensures first { (j : ℕ) → j < 16 → slice_index result.0 j ≡ bit_xor (bit_xor (gap (slice_index a1 j) (slice_index a2 j)) (gap (slice_index a2 j) (slice_index a3 j))) (gap (slice_index a3 j) (slice_index a0 j)) }
@@ -29,6 +32,7 @@ fn column(a0: Lanes, a1: Lanes, a2: Lanes, a3: Lanes) -> (Lanes, Lanes, Lanes, L
     (sum(e, d3), sum(f, d2), sum(f, d1), sum(e, d0))
 }
 
+/// SUBBYTES(), SHIFTROWS(), MIXCOLUMNS() and ADDROUNDKEY() (FIPS 197, section 5.1).
 #[inline(always)]
 fn mixed_round(s: &Blocks, k: &Blocks) -> Blocks
     ensures { (j : ℕ) (state key : List ℕ) → j < 16 → IsState state → IsState key → IsInTower s.now j state → IsKeyInTower k.now j key → IsInTower result j (add_round_key key (mix_columns (shift_rows (sub_bytes state)))) }
@@ -57,6 +61,7 @@ fn mixed_round(s: &Blocks, k: &Blocks) -> Blocks
     ]
 }
 
+/// SUBBYTES(), SHIFTROWS() and ADDROUNDKEY().
 #[inline(always)]
 fn last_round(s: &Blocks, k: &Blocks) -> Blocks
     ensures { (j : ℕ) (state key : List ℕ) → j < 16 → IsState state → IsInTower s.now j state → IsLastKey k.now j key → IsBlock result j (add_round_key key (shift_rows (sub_bytes state))) }
@@ -95,6 +100,7 @@ pub(crate) fn enciphered(keys: &Keys, rounds: usize, start: &Blocks) -> Blocks
     last_round(&state, &keys[rounds])
 }
 
+/// The first eight lanes of two vectors in turn.
 #[inline(always)]
 fn lower(a: Lanes, b: Lanes) -> Lanes
     ensures even { (m : ℕ) → m < 8 → slice_index result (2 * m) ≡ slice_index a m }
@@ -103,6 +109,7 @@ fn lower(a: Lanes, b: Lanes) -> Lanes
     a.shuffle(b, [0, 16, 1, 17, 2, 18, 3, 19, 4, 20, 5, 21, 6, 22, 7, 23])
 }
 
+/// The last eight lanes of two vectors in turn.
 #[inline(always)]
 fn upper(a: Lanes, b: Lanes) -> Lanes
     ensures even { (m : ℕ) → m < 8 → slice_index result (2 * m) ≡ slice_index a (8 + m) }

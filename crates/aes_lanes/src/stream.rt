@@ -191,7 +191,8 @@ fn add_last_group(keys: &Keys, rounds: usize, start: &[u8; 16], text: &mut [u8])
     add_part(text, 256 * whole, &group(keys, rounds, start, count));
 }
 
-/// Adds the stream to the front of a text by groups, and answers to how many blocks: all but those of an end that is shorter than half a group.
+/// Adds the stream to the front of a text by groups, and answers to how many blocks: to all but those of an
+/// end that is shorter than half a group.
 fn add_by_groups(words: &[[u8; 4]; 60], rounds: usize, start: &[u8; 16], text: &mut [u8]) -> usize
     requires some { 0 < rounds }
     requires most { rounds ≤ 14 }
