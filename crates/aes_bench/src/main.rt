@@ -1,32 +1,36 @@
-//! Repeats AES in counter mode over 64 KiB, for the benchmark in bench/. The words are the bytes of the
-//! key and how often. It prints a checksum alone, the same at each run of the same words.
+//! Repeats a call of AES, for the benchmark in bench/, and prints a checksum alone. Its words are what is
+//! measured, the bytes of the key and how often, so that a script can time it at two counts and take the difference.
 #![tactic(auto)]
 
 ghost use Rattle.std.specs.Prelude.{IsTrue};
 ghost use Rattle.bits_core.specs.Parameters.{is_aes_length};
 
-use aes_core::{Schedule, gctr};
+mod work;
+
+use aes_core::Schedule;
 use anyhow::{Context, Result, ensure};
 use std::alloc::{AllocError, Global};
 use std::env;
+use work::Work;
 
+/// The bytes of a text.
 const LENGTH: usize = 65536;
 
-/// The text after `count` key streams were added to zeros, one for each start block.
-fn repeated(alloc: Global, key_bytes: usize, count: u32) -> Result<Vec<u8>, AllocError>
+/// The text or the block after `count` turns.
+fn repeated(alloc: Global, work: Work, key_bytes: usize, count: u32) -> Result<Vec<u8>, AllocError>
     requires { IsTrue (is_aes_length key_bytes) }
 {
     let key = [7; 32];
     let mut schedule = Schedule::empty();
     schedule.expand(&key[..key_bytes]);
     let mut text = vec![in alloc; 0u8; LENGTH]?;
-    for i in 0..count {
-        let [a, b, c, d] = i.to_be_bytes();
-        gctr(
-            &schedule,
-            &[a, b, c, d, 0, 0, 0, 0, 0, 0, 0, 0, 0, 0, 0, 0],
-            &mut text,
-        );
+    match work {
+        Work::Stream => work::streams(&schedule, &mut text, count),
+        Work::Kibibyte => work::streams(&schedule, &mut text[..1024], count),
+        Work::Lanes => work::streams_by_lanes(&schedule, &mut text, count),
+        Work::Encrypt => text[..16].copy_from_slice(&work::enciphered(&schedule, count)),
+        Work::Decrypt => text[..16].copy_from_slice(&work::deciphered(&schedule, count)),
+        Work::Rekey => text[..16].copy_from_slice(&work::rekeyed(key_bytes, count)),
     }
     schedule.wipe();
     Ok(text)
@@ -43,14 +47,17 @@ fn checksum(bytes: &[u8]) -> u32 {
 
 fn main(rt: HostRuntime) -> Result<()> {
     let words: Vec<String> = env::args(&rt)?.collect(rt.alloc())?;
-    ensure!(words.len() == 3, "usage: aes_bench KEYBYTES COUNT");
-    let key_bytes: usize = words[1].parse().context("the bytes of the key")?;
-    let count: u32 = words[2].parse().context("how often")?;
+    ensure!(words.len() == 4, "usage: aes_bench WORK KEYBYTES COUNT");
+    let work = Work::of(words[1].as_str()).context(
+        "the work is stream, kibibyte, lanes, encrypt, decrypt or rekey",
+    )?;
+    let key_bytes: usize = words[2].parse().context("the bytes of the key")?;
+    let count: u32 = words[3].parse().context("how often")?;
     ensure!(
         key_bytes == 16 || key_bytes == 24 || key_bytes == 32,
         "a key has 16, 24 or 32 bytes"
     );
-    let text = repeated(rt.alloc(), key_bytes, count)?;
+    let text = repeated(rt.alloc(), work, key_bytes, count)?;
     println!(rt; "{}", checksum(&text))?;
     Ok(())
 }

@@ -1,4 +1,2 @@
-pub mod ByteTables
-pub mod WordSums
 pub mod Words
 pub mod UnderKey

@@ -12,7 +12,7 @@ use Rattle.bits_core.specs.ByteList.{zeros}
 use Rattle.aes_spec.specs.Field.{product, remainder, times, power, sub_byte}
 use Rattle.aes_spec.specs.Key.{word_sum, sub_word, rot_word, rcon, key_word, added_word, next_word, key_expansion}
 use Rattle.aes_core.specs.Schedules.{zero_words}
-use Rattle.aes_core.specs.declared.tables.TheConstants.{ROUND_CONSTANTS}
+use Rattle.aes_core.specs.declared.expansion.TheConstants.{ROUND_CONSTANTS}
 
 constants_table : map (slice_index ROUND_CONSTANTS) (range_with_len 0 15) ≡ map (λ j. power 2 (j - 1)) (range_with_len 0 15)
 unfolding product remainder times power

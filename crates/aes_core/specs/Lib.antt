@@ -2,5 +2,4 @@ pub use Rattle.aes_spec.specs.Field
 pub use Rattle.aes_spec.specs.Aes
 pub use Rattle.aes_spec.specs.Key
 pub use Rattle.aes_spec.specs.Gctr
-pub mod Columns
 pub mod Schedules

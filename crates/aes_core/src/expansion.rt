@@ -4,8 +4,12 @@ ghost use Rattle.bits_core.specs.Parameters.{is_aes_length};
 ghost use Rattle.aes_spec.specs.Key.{added_word, word_sum, next_word, key_words, schedule_words};
 ghost use Rattle.aes_core.specs.Schedules.{zero_words};
 
-use crate::rounds::sub;
-use crate::tables::ROUND_CONSTANTS;
+use aes_lanes::sub_word;
+
+/// The first byte of round constant j (FIPS 197, section 5.2), and 1 at 0.
+static ROUND_CONSTANTS: [u8; 15] = [
+    0x01, 0x01, 0x02, 0x04, 0x08, 0x10, 0x20, 0x40, 0x80, 0x1b, 0x36, 0x6c, 0xd8, 0xab, 0x4d,
+];
 
 /// What word `i` adds to the word `nk` places before it; `last` is word `i - 1`.
 fn added(last: [u8; 4], i: usize, nk: usize) -> [u8; 4]
@@ -13,11 +17,11 @@ fn added(last: [u8; 4], i: usize, nk: usize) -> [u8; 4]
     requires words { 4 ≤ nk }
     ensures { result ≡ added_word nk i last }
 {
-    let [a, b, c, d] = last;
     if i % nk == 0 {
-        [sub(b) ^ ROUND_CONSTANTS[i / nk], sub(c), sub(d), sub(a)]
+        let [a, b, c, d] = sub_word(last);
+        [b ^ ROUND_CONSTANTS[i / nk], c, d, a]
     } else if nk == 8 && i % 8 == 4 {
-        [sub(a), sub(b), sub(c), sub(d)]
+        sub_word(last)
     } else {
         last
     }

@@ -3,11 +3,9 @@
 
 mod counter;
 mod expansion;
-mod rounds;
 mod schedule;
-mod tables;
 
-pub use counter::{gctr, gctr_plain};
+pub use counter::{gctr, gctr_lanes, gctr_plain};
 pub use schedule::Schedule;
 
 #[cfg(test)]

@@ -1,12 +1,11 @@
 //! A key's schedule, and the cipher under it.
 ghost use Rattle.std.specs.Prelude.{◌≡◌, ◌<◌, ◌≤◌, List, ℕ, length, IsTrue};
 ghost use Rattle.bits_core.specs.Parameters.{is_aes_length};
-ghost use Rattle.aes_spec.specs.Aes.{cipher, inverse_cipher};
-ghost use Rattle.aes_spec.specs.Key.{words_state, aes, aes_inverse};
+ghost use Rattle.aes_spec.specs.Gctr.{gctr};
+ghost use Rattle.aes_spec.specs.Key.{aes, aes_inverse};
 ghost use Rattle.aes_core.specs.Schedules.{blank, IsExpanded};
 
 use crate::expansion;
-use crate::rounds::{add_key, inverse_last_round, last_round, middle_round, round_key, unmix};
 use std::marker::Model;
 
 /// The round keys of an AES key, or zeros. Contracts see the number of rounds and the sixty words.
@@ -61,7 +60,7 @@ impl Schedule {
         requires { 0 < self.now.rounds }
         ensures { (key : List ℕ) → IsExpanded self.now key → block.new ≡ aes key block.old }
     {
-        *block = enciphered(&self.words, self.rounds, *block);
+        *block = aes_lanes::enciphered(&self.words, self.rounds, *block);
     }
 
     /// Deciphers a block under the key that was expanded (FIPS 197, section 5.3).
@@ -69,7 +68,23 @@ impl Schedule {
         requires { 0 < self.now.rounds }
         ensures { (key : List ℕ) → IsExpanded self.now key → block.new ≡ aes_inverse key block.old }
     {
-        *block = deciphered(&self.words, self.rounds, *block);
+        *block = aes_lanes::deciphered(&self.words, self.rounds, *block);
+    }
+
+    /// Adds the key stream from the block `start` on to a text, under the key that was expanded.
+    pub(crate) fn add_stream(&self, start: &[u8; 16], text: &mut [u8])
+        requires { 0 < self.now.rounds }
+        ensures { (key : List ℕ) → IsExpanded self.now key → text.new ≡ gctr (aes key) start.now text.old }
+    {
+        aes_lanes::add_stream(&self.words, self.rounds, start, text);
+    }
+
+    /// As `add_stream`, with SBOX() as a power.
+    pub(crate) fn add_stream_by_powers(&self, start: &[u8; 16], text: &mut [u8])
+        requires { 0 < self.now.rounds }
+        ensures { (key : List ℕ) → IsExpanded self.now key → text.new ≡ gctr (aes key) start.now text.old }
+    {
+        aes_lanes::add_stream_by_powers(&self.words, self.rounds, start, text);
     }
 }
 
@@ -77,34 +92,6 @@ impl Schedule {
 impl Schedule {
     /// The last round key.
     pub(crate) fn last_key(&self) -> [u8; 16] {
-        round_key(&self.words, self.rounds)
+        aes_lanes::round_key(&self.words, self.rounds)
     }
-}
-
-/// CIPHER() under the round keys of these words.
-fn enciphered(words: &[[u8; 4]; 60], rounds: usize, block: [u8; 16]) -> [u8; 16]
-    requires some { 0 < rounds }
-    requires most { rounds ≤ 14 }
-    ensures { result ≡ cipher (words_state words.now) rounds block }
-{
-    let mut state = add_key(block, round_key(words, 0));
-    for round in 1..rounds {
-        let mixed = middle_round(state, round_key(words, round));
-        state = mixed;
-    }
-    add_key(last_round(state), round_key(words, rounds))
-}
-
-/// INVCIPHER() under the round keys of these words.
-fn deciphered(words: &[[u8; 4]; 60], rounds: usize, block: [u8; 16]) -> [u8; 16]
-    requires some { 0 < rounds }
-    requires most { rounds ≤ 14 }
-    ensures { result ≡ inverse_cipher (words_state words.now) rounds block }
-{
-    let mut state = inverse_last_round(add_key(block, round_key(words, rounds)));
-    for done in 1..rounds {
-        let unkeyed = add_key(state, round_key(words, rounds - done));
-        state = inverse_last_round(unmix(unkeyed));
-    }
-    add_key(state, round_key(words, 0))
 }

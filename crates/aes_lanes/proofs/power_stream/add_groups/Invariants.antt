@@ -1,0 +1,8 @@
+use Rattle.std.proofs.Common.{◌*◌}
+use Rattle.aes_spec.specs.Aes.{cipher}
+use Rattle.aes_spec.specs.Key.{words_state}
+use Rattle.aes_lanes.specs.Streams.{Adds}
+use Rattle.aes_lanes.proofs.power_stream.add_groups.Given as goal
+
+abbrev pub invariant-loop-i : goal.invariant-loop-i
+invariant-loop-i l = Adds (cipher (words_state l.words) l.rounds) l.fn.start l.fn.text l.text 0 (256 * l.i)

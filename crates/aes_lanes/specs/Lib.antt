@@ -1,0 +1,4 @@
+pub mod Nibbles
+pub mod Powers
+pub mod Rounds
+pub mod Streams
