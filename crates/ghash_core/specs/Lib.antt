@@ -1,3 +1,5 @@
 pub mod Block
 pub mod Number
+pub mod ByBytes
+pub mod Places
 pub mod Filled

@@ -1,5 +1,5 @@
 //! The running value of GHASH over bytes, as a number whose highest bit is the block's first.
-ghost use Rattle.std.specs.Prelude.{◌≡◌, ℕ, ◌≤◌, ◌++◌, length, take, replicate};
+ghost use Rattle.std.specs.Prelude.{◌≡◌, ℕ, ◌+◌, ◌≤◌, ◌++◌, length, take, drop, replicate};
 ghost use Rattle.ghash_core.specs.Block.{blocks_in};
 ghost use Rattle.ghash_core.specs.Number.{horner, numbers, number_of, AreMultiples};
 
@@ -13,16 +13,30 @@ pub fn number(block: &[u8; 16]) -> u128
     u128::from_be_bytes(*block)
 }
 
-/// The number of a block with zeros after it.
-fn padded(bytes: &[u8]) -> u128
+/// The block of at most 16 bytes, with zeros after them.
+pub fn padded(bytes: &[u8]) -> [u8; 16]
     requires { length bytes.now ≤ 16 }
-    ensures { result ≡ number_of (take 16 (bytes.now ++ replicate 16 0)) }
+    ensures { result ≡ take 16 (bytes.now ++ replicate 16 0) }
 {
     let mut block = [0u8; 16];
     for i in 0..bytes.len() {
         block[i] = bytes[i];
     }
-    number(&block)
+    block
+}
+
+/// The first block, and what follows it.
+#[inline(always)]
+pub fn take_block(bytes: &[u8]) -> (&[u8; 16], &[u8])
+    requires { 16 ≤ length bytes.now }
+    ensures value { result.0.now ≡ take 16 bytes.now }
+    ensures after { result.1.now ≡ drop 16 bytes.now }
+    ensures left { length result.1.now + 16 ≡ length bytes.now }
+{
+    match bytes.split_first_chunk::<16>() {
+        Some((block, after)) => (block, after),
+        None => unreachable!(),
+    }
 }
 
 /// Takes `bytes` into `y`, four bits at a time.
@@ -39,7 +53,7 @@ pub fn by_nibbles(table: &[u128; 16], y: u128, bytes: &[u8]) -> u128
     if rest.is_empty() {
         sum
     } else {
-        nibbles::multiply(table, sum ^ padded(rest))
+        nibbles::multiply(table, sum ^ number(&padded(rest)))
     }
 }
 
@@ -56,6 +70,6 @@ pub fn by_bits(h: u128, y: u128, bytes: &[u8]) -> u128
     if rest.is_empty() {
         sum
     } else {
-        bitwise::multiply(sum ^ padded(rest), h)
+        bitwise::multiply(sum ^ number(&padded(rest)), h)
     }
 }

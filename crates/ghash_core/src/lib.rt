@@ -3,8 +3,13 @@
 
 mod absorb;
 mod bitwise;
+mod by_places;
+mod fold;
+mod key_places;
 mod key_table;
 mod nibbles;
+mod place;
+mod product;
 
 pub use key_table::Table;
 
