@@ -12,7 +12,7 @@ abbrev pub AreBytes : List ℕ → Type 0
 AreBytes = Each1 (Fits w8)
 
 -- ---- shifts
-shift_by_x-shift_by : (n v : ℕ) → shift_by n (shift_by_x v) ≡ shift_by_x (shift_by n v)
+pub shift_by_x-shift_by : (n v : ℕ) → shift_by n (shift_by_x v) ≡ shift_by_x (shift_by n v)
 unfolding shift_by
 shift_by_x-shift_by zero v = refl
 shift_by_x-shift_by (suc n) v = shift_by_x-shift_by n (shift_by_x v)

@@ -12,3 +12,4 @@ pub mod Folding
 pub mod ByteProducts
 pub mod PlaceValues
 pub mod BlockNumbers
+pub mod LaneWords

@@ -1,8 +1,10 @@
 //! The running value of GHASH over bytes, as a number whose highest bit is the block's first.
-ghost use Rattle.std.specs.Prelude.{◌≡◌, ℕ, ◌+◌, ◌≤◌, ◌++◌, length, take, drop, replicate};
+ghost use Rattle.std.specs.Prelude.{◌≡◌, ℕ, ◌+◌, ◌-◌, ◌<◌, ◌≤◌, ◌++◌, length, take, drop, replicate};
 ghost use Rattle.ghash_core.specs.Block.{blocks_in};
-ghost use Rattle.ghash_core.specs.Number.{horner, numbers, number_of, AreMultiples};
+ghost use Rattle.ghash_core.specs.Lane.{AreRows};
+ghost use Rattle.ghash_core.specs.Number.{horner, numbers, number_of, number_power, AreMultiples};
 
+use crate::lanes::{self, Row};
 use crate::{bitwise, nibbles};
 
 /// The number of a block, its first bit the highest.
@@ -72,4 +74,25 @@ pub fn by_bits(h: u128, y: u128, bytes: &[u8]) -> u128
     } else {
         bitwise::multiply(sum ^ number(&padded(rest)), h)
     }
+}
+
+/// Takes `bytes` into `y`, four blocks side by side, and the rest of fewer than four bit by bit. Lane j of the rows is
+/// of H^(4 - j).
+pub fn by_lanes(rows: &[Row; 16], h: u128, y: u128, bytes: &[u8]) -> u128
+    ensures { ((j : ℕ) → j < 4 → AreRows rows.now j (number_power h (4 - j)))
+        → result ≡ horner h y (numbers (blocks_in (length bytes.now)) bytes.now) }
+{
+    let mut sum = y;
+    let mut rest = bytes;
+    while 64 <= rest.len() {
+        let (a, after_a) = take_block(rest);
+        let (b, after_b) = take_block(after_a);
+        let (c, after_c) = take_block(after_b);
+        let (d, after_d) = take_block(after_c);
+        let (hi, lo) = lanes::split(sum ^ number(a), number(b), number(c), number(d));
+        let (product_hi, product_lo) = lanes::multiply(rows, hi, lo);
+        sum = lanes::sum(product_hi, product_lo);
+        rest = after_d;
+    }
+    by_bits(h, sum, rest)
 }

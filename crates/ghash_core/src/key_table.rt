@@ -4,7 +4,7 @@ ghost use Rattle.ghash_core.specs.Block.{absorbed, block_of, blocks_of, bytes_of
 ghost use Rattle.ghash_core.specs.Filled.{IsFilled, IsWiped};
 
 use crate::place::Place;
-use crate::{absorb, by_places, key_places, nibbles, product};
+use crate::{absorb, by_places, key_places, lanes, nibbles, product};
 
 /// The byte places of H^4 to H, for a hash subkey H: by them a block is multiplied with no address that depends on it or
 /// on H. They are 2,048 bytes, and H and its powers can be read back from them.
@@ -91,6 +91,23 @@ impl Table {
     {
         let multiples = nibbles::multiples(key_places::multiplicand(&self.first));
         let end = absorb::by_nibbles(&multiples, absorb::number(acc), bytes);
+        *acc = end.to_be_bytes();
+    }
+
+    /// Takes the blocks of `bytes` into `acc`, four side by side in vectors of four lanes, by shifts and masks alone; a rest
+    /// of fewer than four goes bit by bit. It makes the rows of the four powers anew.
+    pub fn absorb_lanes(&self, acc: &mut [u8; 16], bytes: &[u8])
+        ensures { (h : List ℕ) → IsFilled self.now h
+            → acc.new ≡ bytes_of (absorbed (block_of h) (block_of acc.old) (blocks_of bytes.now)) }
+    {
+        let powers = [
+            key_places::multiplicand(&self.fourth),
+            key_places::multiplicand(&self.third),
+            key_places::multiplicand(&self.second),
+            key_places::multiplicand(&self.first),
+        ];
+        let rows = lanes::rows_of(&powers);
+        let end = absorb::by_lanes(&rows, powers[3], absorb::number(acc), bytes);
         *acc = end.to_be_bytes();
     }
 }

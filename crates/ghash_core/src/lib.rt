@@ -7,6 +7,7 @@ mod by_places;
 mod fold;
 mod key_places;
 mod key_table;
+mod lanes;
 mod nibbles;
 mod place;
 mod product;

@@ -207,6 +207,10 @@ fn agrees_with_the_standard(rt: HostRuntime) -> Result<(), Fail> {
         let mut acc = before.to_be_bytes();
         table.absorb_table(&mut acc, piece);
         assert_eq!(rt; acc, want, "absorb_table at {length}");
+
+        let mut acc = before.to_be_bytes();
+        table.absorb_lanes(&mut acc, piece);
+        assert_eq!(rt; acc, want, "absorb_lanes at {length}");
     }
     table.wipe();
     Ok(())
