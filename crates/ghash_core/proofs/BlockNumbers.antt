@@ -15,13 +15,10 @@ use Rattle.std.specs.Int.Bits.{bit_xor, xor_assoc, xor_zero_r, xor_shifted}
 use Rattle.std.proofs.lemmas.Nat.{pow-add, shl_below, mod-pow-add}
 use Rattle.std.proofs.Math.Nat.{mul_assoc, add-mul, mod-eq_of_lt}
 use Rattle.std.proofs.lemmas.List.{length-drop, length-take, take_all}
-use Rattle.std.proofs.lemmas.Simd.{Each1-from_get_or, chunk-fits}
+use Rattle.std.proofs.lemmas.Simd.{chunk-fits}
 use Rattle.std.proofs.lemmas.Grind.{same_number_lists}
 use Rattle.ghash_core.proofs.PlaceValues.{byte_of, byte_is, nth_byte}
 use lib.Lanes.{chunk}
-
-pub are_bytes : (xs : List ℕ) → ((i : ℕ) → get_or xs i 0 < 256) → AreBytes xs
-are_bytes xs h = Each1-from_get_or (Fits w8) xs 0 (λ i l. record { fits = h i })
 
 by_value : (xs : List ℕ) → length xs ≤ 16 → AreBytes xs → by_bytes first_byte xs ≡ value xs * 2 ^ (128 - 8 * length xs)
 unfolding value by_bytes

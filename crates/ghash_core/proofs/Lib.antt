@@ -13,3 +13,4 @@ pub mod ByteProducts
 pub mod PlaceValues
 pub mod BlockNumbers
 pub mod LaneWords
+pub mod Written

@@ -17,18 +17,18 @@ pub fn fill(places: &mut [Place; 16], h: u128)
     let by_5 = by_x(by_4);
     let by_6 = by_x(by_5);
     let by_7 = by_x(by_6);
-    let a = h.to_be_bytes();
-    let b = by_1.to_be_bytes();
-    let c = by_2.to_be_bytes();
-    let d = by_3.to_be_bytes();
-    let e = by_4.to_be_bytes();
-    let f = by_5.to_be_bytes();
-    let g = by_6.to_be_bytes();
-    let i = by_7.to_be_bytes();
+    let bytes_0 = h.to_be_bytes();
+    let bytes_1 = by_1.to_be_bytes();
+    let bytes_2 = by_2.to_be_bytes();
+    let bytes_3 = by_3.to_be_bytes();
+    let bytes_4 = by_4.to_be_bytes();
+    let bytes_5 = by_5.to_be_bytes();
+    let bytes_6 = by_6.to_be_bytes();
+    let bytes_7 = by_7.to_be_bytes();
     for k in 0usize..16 {
         places[k] = Place {
-            high: place::sums(a[k], b[k], c[k], d[k]),
-            low: place::sums(e[k], f[k], g[k], i[k]),
+            high: place::sums(bytes_0[k], bytes_1[k], bytes_2[k], bytes_3[k]),
+            low: place::sums(bytes_4[k], bytes_5[k], bytes_6[k], bytes_7[k]),
         };
     }
 }

@@ -118,12 +118,12 @@ pub fn rows_of(multiplicands: &[u128; 4]) -> [Row; 16]
 {
     let zero = u64x4::splat(0);
     let mut rows = [Row { hi: zero, lo: zero }; 16];
-    let mut blocks = *multiplicands;
+    let mut products = *multiplicands;
     for i in 0usize..16 {
-        let (hi, lo) = split(blocks[0], blocks[1], blocks[2], blocks[3]);
+        let (hi, lo) = split(products[0], products[1], products[2], products[3]);
         rows[15 - i] = Row { hi, lo };
-        let next = by_x(&blocks);
-        blocks = next;
+        let next = by_x(&products);
+        products = next;
     }
     rows
 }
