@@ -11,28 +11,36 @@ least() {
     echo "$best"
 }
 
-# speed NAME BYTES COUNT PROGRAM..: of a program that takes BYTES and a count as its last words, between COUNT and
-# three times COUNT
-speed() {
-    local name=$1 size=$2 count=$3 few many
-    shift 3
+# rate BYTES COUNT PROGRAM..: of a program that takes BYTES and a count as its last words, between COUNT and three times COUNT
+rate() {
+    local size=$1 count=$2 few many
+    shift 2
     few=$(least "$@" "$size" "$count")
     many=$(least "$@" "$size" $((3 * count)))
-    awk -v bytes=$((size * 2 * count)) -v time=$((many - few)) -v name="$name" -v size="$size" \
-        'BEGIN { printf "%-40s %6d bytes %8.1f MB/s\n", name, size, bytes / 1000 / time }'
+    awk -v bytes=$((size * 2 * count)) -v time=$((many - few)) 'BEGIN { printf "%.1f", bytes / 1000 / time }'
 }
 
-# peer BYTES NAME ENVIRONMENT: OpenSSL's AES-256-GCM, also by user time, the best of three
-peer() {
+# speed NAME BYTES COUNT PROGRAM..: a line with this rate
+speed() {
+    local name=$1
+    shift
+    printf '%-40s %6d bytes %8.1f MB/s\n' "$name" "$1" "$(rate "$@")"
+}
+
+# Masks of OpenSSL's instructions for AES and for products without carries.
+off='~0x200000200000000'
+on=':'
+
+# openssl_rate MASK BYTES WORDS..: what `openssl speed` tells, also by user time, the best of three
+openssl_rate() {
+    local mask=$1 size=$2
+    shift 2
     for _ in 1 2 3; do
-        env "$3" openssl speed -evp aes-256-gcm -bytes "$1" -seconds 1 2>/dev/null
-    done | awk -v name="$2" -v size="$1" '
-        /^AES-256-GCM/ && $2 + 0 > best { best = $2 + 0 }
-        END { printf "%-40s %6d bytes %8.1f MB/s\n", name, size, best / 1000 }'
+        OPENSSL_ia32cap=$mask openssl speed "$@" -bytes "$size" -seconds 1 2>/dev/null
+    done | awk '/^AES-/ && $2 + 0 > best { best = $2 + 0 } END { printf "%.1f", best / 1000 }'
 }
 
-# peers BYTES: with and without its instructions for AES and for products without carries
-peers() {
-    peer "$1" "openssl aes-256-gcm, instructions off" OPENSSL_ia32cap='~0x200000200000000'
-    peer "$1" "openssl aes-256-gcm, instructions on" LC_ALL=C
+# ratio A B: to two places
+ratio() {
+    awk -v a="$1" -v b="$2" 'BEGIN { printf "%.2f", a / b }'
 }

@@ -32,20 +32,13 @@ def absorbed(h, start, text):
     return start
 
 
-def power(h, n):
-    result = 1 << 127
-    for _ in range(n):
-        result = product(result, h)
-    return result
-
-
 def by_sum(h, start, text):
-    """The start times H^m, and the sum of Xi times H^(m + 1 - i)."""
-    xs = blocks(text)
-    total = product(start, power(h, len(xs)))
-    for i, x in enumerate(xs):
-        total ^= product(x, power(h, len(xs) - i))
-    return total
+    """The start times H^m, and the sum of Xi times H^(m + 1 - i), from the last on."""
+    power, total = 1 << 127, 0
+    for x in reversed(blocks(text)):
+        power = product(power, h)
+        total ^= product(x, power)
+    return total ^ product(start, power)
 
 
 def encrypted(key, block):
@@ -78,7 +71,7 @@ SUBKEYS = [
     0x66E94BD4EF8A2C3B884CFA59CA342B2E,  # of the key of 16 zero bytes
     0xDC95C078A2408989AD48A21492842087,  # of the key of 32 zero bytes
 ]
-LENGTHS = [0, 1, 15, 16, 17, 63, 64, 65, 127, 128, 255, 256, 257]
+LENGTHS = [0, 1, 15, 16, 17, 63, 64, 65, 127, 128, 255, 256, 257, 65_594]
 
 
 def main():

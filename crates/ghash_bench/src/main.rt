@@ -14,8 +14,8 @@ const LIMIT: usize = 1 << 20;
 fn main(rt: HostRuntime) -> Result<()> {
     let mut words = env::args(&rt)?;
     let _program = words.next();
-    let name = words.next().context("a way of GHASH, plain or table")?;
-    let way = Way::of(name.as_str()).context("the way is plain or table")?;
+    let name = words.next().context("a way of GHASH")?;
+    let way = Way::of(name.as_str()).context("the way is shuffles, lanes, table, plain or fill")?;
     let length = words
         .next()
         .context("a number of bytes")?

@@ -61,7 +61,7 @@ bytes_fit zero n i = lit< tt
 bytes_fit (suc k) n zero = byte_at-lt k n
 bytes_fit (suc k) n (suc i) = bytes_fit k n i
 
-length-bytes : (k n : ℕ) → length (bytes_high_first k n) ≡ k
+pub length-bytes : (k n : ℕ) → length (bytes_high_first k n) ≡ k
 length-bytes zero n = refl
 length-bytes (suc k) n = ap suc (length-bytes k n)
 

@@ -199,8 +199,3 @@ table_step z x h i t rest e d f =
 pub rest_step : (x i rest : ℕ) → rest ≡ x / 2 ^ (4 * i) → rest / 16 ≡ x / 2 ^ (4 * (i + 1))
 rest_step x i rest d =
     ap (λ (y : ℕ). y / 2 ^ 4) d ∙ shr-shr x (4 * i) 4 ∙ ap (λ (n : ℕ). x / 2 ^ n) (omega arith)
-
--- the multiple by the bits 1000 is the block itself
-pub multiple_eight : (h : ℕ) → digits_product (digits 4 8) h ≡ h
-unfolding digits_product digits
-multiple_eight h = xor_zero_r h

@@ -6,3 +6,11 @@ pub mod Bits
 pub mod Sums
 pub mod BlockBytes
 pub mod Absorbing
+pub mod LookUps
+pub mod ByteSums
+pub mod Folding
+pub mod ByteProducts
+pub mod PlaceValues
+pub mod BlockNumbers
+pub mod LaneWords
+pub mod Written

@@ -1,21 +1,20 @@
 -- What single steps of the code compute.
 use Rattle.ghash_core.specs.Number.{r_number, when, shift_by_x, digits, digits_product}
-use Rattle.std.proofs.Common.{◌≡◌, ℕ, suc, ◌+◌, ◌-◌, ◌/◌, ◌%◌, ◌^◌, ◌<◌, ◌≤◌, bit_and, sym, ap, ◌∙◌, arith}
+use Rattle.std.proofs.Common.{◌≡◌, ℕ, zero, suc, ◌+◌, ◌-◌, ◌*◌, ◌/◌, ◌%◌, ◌^◌, ◌<◌, ◌≤◌, bit_and, refl, sym, ap, ◌∙◌, arith}
 use Rattle.std.proofs.lemmas.Nat.{and_mask}
 use Rattle.std.specs.Int.Bits.{bit_xor, xor_assoc, xor_zero_r}
 
 pub low_bit : (v : ℕ) → bit_and v 1 ≡ v % 2
 low_bit v = and_mask v 1
 
-pub by_x_odd : (v : ℕ) → bit_and v 1 ≡ 1 → bit_xor (v / 2) 0xe1000000000000000000000000000000 ≡ shift_by_x v
-unfolding shift_by_x r_number
-by_x_odd v h = sym (ap (λ (x : ℕ). bit_xor (v / 2) (when x 0xe1000000000000000000000000000000)) (sym (low_bit v) ∙ h))
+when_times : (b : ℕ) → b < 2 → b * 0xe1000000000000000000000000000000 ≡ when b 0xe1000000000000000000000000000000
+when_times zero h = refl
+when_times (suc zero) h = refl
+when_times (suc (suc b)) h = absurd (omega arith)
 
-pub by_x_even : (v : ℕ) → (bit_and v 1 ≡ 1 → ⊥) → v / 2 ≡ shift_by_x v
+pub by_x_steps : (v : ℕ) → bit_xor (v / 2) (bit_and v 1 * 0xe1000000000000000000000000000000) ≡ shift_by_x v
 unfolding shift_by_x r_number
-by_x_even v h =
-    let low : v % 2 ≡ 0 = omega (arith, low_bit v, h) in
-    sym (ap (λ (x : ℕ). bit_xor (v / 2) (when x 0xe1000000000000000000000000000000)) low ∙ xor_zero_r (v / 2))
+by_x_steps v = ap (λ (b : ℕ). bit_xor (v / 2) (b * 0xe1000000000000000000000000000000)) (low_bit v) ∙ ap (bit_xor (v / 2)) (when_times (v % 2) (omega arith))
 
 pub when_set : (z v b : ℕ) → bit_and b 1 ≡ 1 → bit_xor z v ≡ bit_xor z (when (b % 2) v)
 when_set z v b h = sym (ap (λ (x : ℕ). bit_xor z (when x v)) (sym (low_bit b) ∙ h))

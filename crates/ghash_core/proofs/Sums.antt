@@ -47,7 +47,7 @@ unfolding bits
 bits-mod zero m n h = refl
 bits-mod (suc k) m n h = ap (λ (x : ℕ). nat_eq x 1 ∷ bits k (n % 2 ^ m)) (bit_of_mod k m n h) ∙ ap (λ (xs : List Bool). nat_eq (n / 2 ^ k % 2) 1 ∷ xs) (bits-mod k m n (omega arith))
 
-value-lt : (bytes : List ℕ) → ((i : ℕ) → get_or bytes i 0 < 256) → value bytes < 2 ^ (8 * length bytes)
+pub value-lt : (bytes : List ℕ) → ((i : ℕ) → get_or bytes i 0 < 256) → value bytes < 2 ^ (8 * length bytes)
 unfolding value
 value-lt [] h = omega arith
 value-lt (b ∷ bytes) h =
@@ -71,7 +71,7 @@ value-bits (b ∷ bytes) h =
     ∙ ap (λ (x : ℕ). bits 8 x ++ bits k v) (shr_high b k (value bytes) low)
     ∙ ap (λ (xs : List Bool). bits 8 b ++ xs) (sym (bits-mod k k v (omega arith)) ∙ ap (bits k) (mod_low b k (value bytes) low) ∙ value-bits bytes (λ i. h (suc i)))
 
-number_is_value : (bytes : List ℕ) → length bytes ≡ 16 → number_of bytes ≡ value bytes
+pub number_is_value : (bytes : List ℕ) → length bytes ≡ 16 → number_of bytes ≡ value bytes
 unfolding value number_of
 number_is_value (a ∷ b ∷ c ∷ d ∷ e ∷ f ∷ g ∷ h ∷ i ∷ j ∷ k ∷ l ∷ m ∷ n ∷ o ∷ p ∷ []) q = omega arith
 number_is_value bytes q = absurd (omega arith)
@@ -85,7 +85,7 @@ no_bits : (n : ℕ) → block_of (bytes_high_first 0 n) ≡ bits (8 * 0) n
 unfolding block_of bits
 no_bits n = refl
 
-pow256 : (m : ℕ) → 256 ^ m ≡ 2 ^ (8 * m)
+pub pow256 : (m : ℕ) → 256 ^ m ≡ 2 ^ (8 * m)
 pow256 zero = refl
 pow256 (suc m) = pow-suc 256 m ∙ ap (λ (x : ℕ). x * 256) (pow256 m) ∙ sym (pow-add 2 (8 * m) 8) ∙ ap (λ (e : ℕ). 2 ^ e) (let q : 8 * m + 8 ≡ 8 * suc m = omega arith in q)
 

@@ -10,8 +10,8 @@ const REDUCTION: u128 = 0xe100_0000_0000_0000_0000_0000_0000_0000;
 pub fn by_x(v: u128) -> u128
     ensures { result ≡ shift_by_x v }
 {
-    let half = v >> 1;
-    if v & 1 == 1 { half ^ REDUCTION } else { half }
+    // The bit goes into a product and into no test, since v may be a key's.
+    (v >> 1) ^ ((v & 1) * REDUCTION)
 }
 
 /// z and, where bit k of x is set, v.

@@ -3,8 +3,14 @@
 
 mod absorb;
 mod bitwise;
+mod by_places;
+mod fold;
+mod key_places;
 mod key_table;
+mod lanes;
 mod nibbles;
+mod place;
+mod product;
 
 pub use key_table::Table;
 

@@ -1,9 +1,10 @@
 //! Values from outside: rows of `checks/ghash_rows.py` and the second case of the GCM submission.
 use crate::Table;
+use std::alloc::{AllocError, Global};
 use std::test::Fail;
 
 /// Subkey, value before, number of bytes, value after.
-const ROWS: [(u128, u128, usize, u128); 26] = [
+const ROWS: [(u128, u128, usize, u128); 28] = [
     (
         0x66e94bd4_ef8a2c3b_884cfa59_ca342b2e,
         0x00000000_00000000_00000000_00000000,
@@ -83,6 +84,12 @@ const ROWS: [(u128, u128, usize, u128); 26] = [
         0xfd1bed47_51cb9fe4_4eaa86cf_b91dc469,
     ),
     (
+        0x66e94bd4_ef8a2c3b_884cfa59_ca342b2e,
+        0x00000000_00000000_00000000_00000000,
+        65594,
+        0x272850a2_8413f9ab_01deb6f5_ebf5e369,
+    ),
+    (
         0xdc95c078_a2408989_ad48a214_92842087,
         0xf0f1f2f3_f4f5f6f7_f8f9fafb_fcfdfeff,
         0,
@@ -160,20 +167,29 @@ const ROWS: [(u128, u128, usize, u128); 26] = [
         257,
         0x8700b3f5_2a1339b6_ee19aa8e_65cc7f61,
     ),
+    (
+        0xdc95c078_a2408989_ad48a214_92842087,
+        0xf0f1f2f3_f4f5f6f7_f8f9fafb_fcfdfeff,
+        65594,
+        0xc0655f80_6282f445_af772d87_17546ad9,
+    ),
 ];
 
+/// The longest text of the rows.
+const LONGEST: usize = 65_594;
+
 /// Byte i is 7 i + 3 modulo 256.
-fn text() -> [u8; 257] {
-    let mut bytes = [0u8; 257];
-    for i in 0usize..257 {
-        bytes[i] = ((7 * i + 3) % 256) as u8;
+fn text(alloc: Global) -> Result<Vec<u8>, AllocError> {
+    let mut bytes = Vec::with_capacity(alloc, LONGEST)?;
+    for i in 0..LONGEST {
+        bytes.push(((7 * i + 3) % 256) as u8)?;
     }
-    bytes
+    Ok(bytes)
 }
 
 #[test]
 fn agrees_with_the_standard(rt: HostRuntime) -> Result<(), Fail> {
-    let bytes = text();
+    let bytes = text(rt.alloc())?;
     let mut table = Table::empty();
     for (subkey, before, length, after) in ROWS {
         table.fill(&subkey.to_be_bytes());
@@ -191,6 +207,10 @@ fn agrees_with_the_standard(rt: HostRuntime) -> Result<(), Fail> {
         let mut acc = before.to_be_bytes();
         table.absorb_table(&mut acc, piece);
         assert_eq!(rt; acc, want, "absorb_table at {length}");
+
+        let mut acc = before.to_be_bytes();
+        table.absorb_lanes(&mut acc, piece);
+        assert_eq!(rt; acc, want, "absorb_lanes at {length}");
     }
     table.wipe();
     Ok(())

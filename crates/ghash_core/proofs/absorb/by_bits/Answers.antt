@@ -1,6 +1,6 @@
 use Rattle.std.proofs.Common.{ℕ, ◌∙◌, ap, sym, length, bit_xor, rules}
 use Rattle.ghash_core.specs.Block.{blocks_in}
-use Rattle.ghash_core.specs.Number.{horner, numbers, number_product}
+use Rattle.ghash_core.specs.Number.{horner, numbers, number_of, number_product}
 use Rattle.ghash_core.proofs.Bytes.{whole_block, no_block, last_block}
 use Rattle.ghash_core.proofs.absorb.by_bits.Goals as goal
 
@@ -17,5 +17,5 @@ returns-then-is_empty c = sym (no_block c.args.h c.loop-block.sum c.loop-block.r
 
 pub returns-else-is_empty : goal.returns-else-is_empty
 returns-else-is_empty c =
-    c.multiply.ensures ∙ ap (λ (x : ℕ). number_product (bit_xor c.loop-block.sum x) c.args.h) c.padded.ensures
+    c.multiply.ensures ∙ ap (λ (x : ℕ). number_product (bit_xor c.loop-block.sum x) c.args.h) (c.number-else-is_empty.ensures ∙ ap number_of c.padded.ensures)
     ∙ sym (last_block c.args.h c.loop-block.sum c.loop-block.rest.now (search rules) (search rules)) ∙ c.loop-block.invariant
