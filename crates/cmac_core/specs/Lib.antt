@@ -1,0 +1,3 @@
+pub mod Cmac
+pub mod Streams
+pub mod Derivation
