@@ -1,7 +1,8 @@
 -- The blocks of a derivation, one from another, and joined.
 use Rattle.hmac_core.specs.Blocks.{joined}
 use Rattle.cmac_core.specs.Cmac.{cmac}
-use Rattle.cmac_core.specs.Derivation.{GoesOn, before_counter, counter_block, feedback_block, key_block, pipeline_block, pipeline_input}
+use Rattle.cmac_core.specs.Derivation.{counter_block, feedback_block, key_block, pipeline_block, pipeline_input}
+use Rattle.cmac_core.specs.Steps.{GoesOn, before_counter}
 use Rattle.cmac_core.specs.declared.derivation.Mode.{Mode}
 use Rattle.cmac_core.specs.declared.derivation.Mode.TheVariants.{Counter, Feedback, Pipeline}
 use Rattle.cmac_core.proofs.Blocks.{length-cmac}

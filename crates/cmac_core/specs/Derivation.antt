@@ -1,6 +1,6 @@
 -- Key derivation with CMAC (SP 800-108 Rev. 1, section 4). This project's profile: a counter and a length of 32
 -- bits each, and an empty K(0).
-use Rattle.std.specs.Prelude.{◌≡◌, ◌<◌, ℕ, zero, suc, ◌+◌, ◌-◌, ◌*◌, ◌/◌, List, [], ◌++◌, take}
+use Rattle.std.specs.Prelude.{ℕ, zero, suc, ◌+◌, ◌*◌, ◌/◌, List, [], ◌++◌, take}
 use Rattle.std.specs.Int.{w32, to_be_bytes}
 use Rattle.hmac_core.specs.Blocks.{joined}
 use Rattle.kbkdf_core.specs.CounterMode.{fixed_input}
@@ -35,15 +35,3 @@ key_block Pipeline key fixed i = pipeline_block key fixed i
 -- the leftmost n bytes of K(1), K(2), .. joined
 unfoldable pub cmac_kdf : Mode → List ℕ → List ℕ → List ℕ → ℕ → List ℕ
 cmac_kdf mode key label context n = take n (joined (key_block mode key (fixed_input label context (8 * n))) ((n + 15) / 16))
-
--- what stands before [i] in the text of K(i)
-abbrev pub before_counter : Mode → List ℕ → List ℕ → ℕ → List ℕ
-before_counter Counter key fixed i = []
-before_counter Feedback key fixed i = feedback_block key fixed (i - 1)
-before_counter Pipeline key fixed i = pipeline_input key fixed i
-
--- after n blocks, `block` is K(n) where the mode goes on from it, and `chained` is A(n)
-abbrev pub GoesOn : Mode → List ℕ → List ℕ → ℕ → List ℕ → List ℕ → Type 0
-GoesOn Counter key fixed n block chained = Unit {0}
-GoesOn Feedback key fixed n block chained = 0 < n → block ≡ feedback_block key fixed n
-GoesOn Pipeline key fixed n block chained = 0 < n → chained ≡ pipeline_input key fixed n

@@ -5,7 +5,8 @@ ghost use Rattle.aes_core.specs.Schedules.{IsExpanded};
 ghost use Rattle.kbkdf_core.specs.CounterMode.{fixed_input};
 ghost use Rattle.cmac_core.specs.Cmac.{cmac};
 ghost use Rattle.cmac_core.specs.Streams.{HoldsText};
-ghost use Rattle.cmac_core.specs.Derivation.{GoesOn, before_counter, cmac_kdf, key_block, pipeline_input};
+ghost use Rattle.cmac_core.specs.Derivation.{cmac_kdf, key_block, pipeline_input};
+ghost use Rattle.cmac_core.specs.Steps.{GoesOn, before_counter};
 
 use crate::stream::{BLOCK, CmacStream};
 use aes_core::Schedule;

@@ -41,7 +41,7 @@ impl CmacStream {
             → HoldsText self.new key (text ++ piece.now) }
     {
         for byte in piece {
-            self.take(schedule, *byte);
+            self.take_byte(schedule, *byte);
         }
     }
 
@@ -51,7 +51,7 @@ impl CmacStream {
         ensures { (key text : List ℕ) → IsExpanded schedule.now key → HoldsText self key text
             → out.new ≡ cmac key text }
     {
-        let CmacStream { block, used } = self;
+        let CmacStream { mut block, used } = self;
         *out = block;
         let mut first = [0; 16];
         let mut second = [0; 16];
@@ -65,11 +65,12 @@ impl CmacStream {
         schedule.encrypt(out);
         wipe(&mut first);
         wipe(&mut second);
+        wipe(&mut block);
     }
 
     // Takes one byte of the text.
     #[inline(always)]
-    fn take(&mut self, schedule: &Schedule, byte: u8)
+    fn take_byte(&mut self, schedule: &Schedule, byte: u8)
         requires { 0 < schedule.now.rounds }
         ensures { (key text : List ℕ) → IsExpanded schedule.now key → HoldsText self.old key text
             → HoldsText self.new key (text ++ byte ∷ []) }

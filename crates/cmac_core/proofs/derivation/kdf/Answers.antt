@@ -3,7 +3,8 @@ use Rattle.std.proofs.lemmas.List.{take_all}
 use Rattle.aes_core.specs.Schedules.{IsExpanded}
 use Rattle.hmac_core.specs.Blocks.{joined}
 use Rattle.kbkdf_core.specs.CounterMode.{fixed_input}
-use Rattle.cmac_core.specs.Derivation.{GoesOn, cmac_kdf, key_block}
+use Rattle.cmac_core.specs.Derivation.{cmac_kdf, key_block}
+use Rattle.cmac_core.specs.Steps.{GoesOn}
 use Rattle.cmac_core.proofs.KeyBlocks.{goes_on_first, length-key_block, none_yet, one_more}
 use Rattle.cmac_core.proofs.derivation.kdf.Goals as goal
 

@@ -2,7 +2,8 @@ use Rattle.std.proofs.Common.{◌≡◌, ℕ, List, ◌*◌, length, take}
 use Rattle.aes_core.specs.Schedules.{IsExpanded}
 use Rattle.hmac_core.specs.Blocks.{joined}
 use Rattle.kbkdf_core.specs.CounterMode.{fixed_input}
-use Rattle.cmac_core.specs.Derivation.{GoesOn, key_block}
+use Rattle.cmac_core.specs.Derivation.{key_block}
+use Rattle.cmac_core.specs.Steps.{GoesOn}
 use Rattle.cmac_core.proofs.derivation.kdf.Given as goal
 
 abbrev pub invariant-loop-done : goal.invariant-loop-done

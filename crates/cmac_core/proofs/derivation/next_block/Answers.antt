@@ -2,7 +2,8 @@ use Rattle.std.proofs.Common.{◌≡◌, ℕ, List, ◌++◌, sym, subst, ap, �
 use Rattle.std.specs.Int.{w32, to_be_bytes}
 use Rattle.kbkdf_core.specs.CounterMode.{fixed_input}
 use Rattle.cmac_core.specs.Cmac.{cmac}
-use Rattle.cmac_core.specs.Derivation.{GoesOn, key_block}
+use Rattle.cmac_core.specs.Derivation.{key_block}
+use Rattle.cmac_core.specs.Steps.{GoesOn}
 use Rattle.cmac_core.proofs.KeyBlocks.{block_is}
 use Rattle.cmac_core.proofs.derivation.next_block.Goals as goal
 

@@ -1,7 +1,8 @@
 use Rattle.std.proofs.Common.{◌≡◌, ℕ, List, [], ◌-◌, ◌<◌, take, refl, sym, subst, ap, ◌∙◌, arith}
 use Rattle.std.proofs.lemmas.List.{take_all}
 use Rattle.kbkdf_core.specs.CounterMode.{fixed_input}
-use Rattle.cmac_core.specs.Derivation.{GoesOn, before_counter, feedback_block, key_block, pipeline_input}
+use Rattle.cmac_core.specs.Derivation.{feedback_block, key_block, pipeline_input}
+use Rattle.cmac_core.specs.Steps.{GoesOn, before_counter}
 use Rattle.cmac_core.specs.declared.derivation.Mode.{Mode}
 use Rattle.cmac_core.proofs.derivation.prepare.Goals as goal
 

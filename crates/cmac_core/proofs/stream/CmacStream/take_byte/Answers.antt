@@ -2,8 +2,8 @@ use Rattle.std.proofs.Common.{◌≡◌, ◌∷◌, ◌+◌, ◌++◌, [], ℕ, 
 use Rattle.cmac_core.specs.Streams.{HoldsText}
 use Rattle.cmac_core.specs.declared.stream.CmacStream.{CmacStream}
 use Rattle.cmac_core.proofs.Taking.{taken_short, taken_full}
-use Rattle.cmac_core.proofs.stream.CmacStream.take.Goals as goal
-use Rattle.cmac_core.proofs.stream.CmacStream.take.Goals.{then-self-ge-BLOCK, else-self-ge-BLOCK}
+use Rattle.cmac_core.proofs.stream.CmacStream.take_byte.Goals as goal
+use Rattle.cmac_core.proofs.stream.CmacStream.take_byte.Goals.{then-self-ge-BLOCK, else-self-ge-BLOCK}
 
 pub returns : goal.returns
 returns c key text is held =
