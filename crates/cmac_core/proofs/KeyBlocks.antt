@@ -2,7 +2,7 @@
 use Rattle.hmac_core.specs.Blocks.{joined}
 use Rattle.cmac_core.specs.Cmac.{cmac}
 use Rattle.cmac_core.specs.Derivation.{counter_block, feedback_block, key_block, pipeline_block, pipeline_input}
-use Rattle.cmac_core.specs.Steps.{GoesOn, before_counter}
+use Rattle.cmac_core.specs.Steps.{IsAfterBlocks, before_counter}
 use Rattle.cmac_core.specs.declared.derivation.Mode.{Mode}
 use Rattle.cmac_core.specs.declared.derivation.Mode.TheVariants.{Counter, Feedback, Pipeline}
 use Rattle.cmac_core.proofs.Blocks.{length-cmac}
@@ -51,10 +51,10 @@ one_more width block each n total before after fits held written =
     ∙ ap (λ (m : ℕ). take m (whole ++ block (suc n))) (sym room)
 
 -- before the first block nothing is held
-pub goes_on_first : (mode : Mode) (key fixed block chained : List ℕ) → GoesOn mode key fixed 0 block chained
-goes_on_first Counter key fixed block chained = tt
-goes_on_first Feedback key fixed block chained = λ h. absurd (omega arith)
-goes_on_first Pipeline key fixed block chained = λ h. absurd (omega arith)
+pub after_none : (mode : Mode) (key fixed block prefix : List ℕ) → IsAfterBlocks mode key fixed 0 block prefix
+after_none Counter key fixed block prefix = tt
+after_none Feedback key fixed block prefix = λ h. absurd (omega arith)
+after_none Pipeline key fixed block prefix = λ h. absurd (omega arith)
 
 pub none_yet : (block : ℕ → List ℕ) (total : ℕ) → [] ≡ take total (joined block 0)
 unfolding joined

@@ -26,9 +26,9 @@ unpadded : (x y : List ℕ) → zero_padded 16 (x ++ 0x80 ∷ []) ≡ zero_padde
 unpadded x y same = elim (cases_lt (length x) (length y)) [
   | inl below ↦ absurd (no_shorter x y below same)
   | inr above ↦ elim (cases_lt (length y) (length x)) [
-      | inl less ↦ absurd (no_shorter y x less (sym same))
-      | inr more ↦ sym (front x (length x) refl) ∙ ap (take (length x)) same ∙ front y (length x) (omega arith)
-    ]
+    | inl less ↦ absurd (no_shorter y x less (sym same))
+    | inr more ↦ sym (front x (length x) refl) ∙ ap (take (length x)) same ∙ front y (length x) (omega arith)
+  ]
 ]
 
 last_same : (a b : List ℕ) (v : Bool) → is_whole a ≡ v → is_whole b ≡ v → padded_block a ≡ padded_block b → last_block a ≡ last_block b

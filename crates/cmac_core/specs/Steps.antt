@@ -10,8 +10,8 @@ before_counter Counter key fixed i = []
 before_counter Feedback key fixed i = feedback_block key fixed (i - 1)
 before_counter Pipeline key fixed i = pipeline_input key fixed i
 
--- what the mode goes on from after n blocks: the last block is K(n), or the sixteen bytes beside it are A(n)
-abbrev pub GoesOn : Mode → List ℕ → List ℕ → ℕ → List ℕ → List ℕ → Type 0
-GoesOn Counter key fixed n block chained = Unit {0}
-GoesOn Feedback key fixed n block chained = 0 < n → block ≡ feedback_block key fixed n
-GoesOn Pipeline key fixed n block chained = 0 < n → chained ≡ pipeline_input key fixed n
+-- after n blocks the mode goes on from K(n) in `block`, from A(n) in `prefix`, or from nothing
+abbrev pub IsAfterBlocks : Mode → List ℕ → List ℕ → ℕ → List ℕ → List ℕ → Type 0
+IsAfterBlocks Counter key fixed n block prefix = Unit {0}
+IsAfterBlocks Feedback key fixed n block prefix = 0 < n → block ≡ feedback_block key fixed n
+IsAfterBlocks Pipeline key fixed n block prefix = 0 < n → prefix ≡ pipeline_input key fixed n

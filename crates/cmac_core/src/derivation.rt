@@ -6,13 +6,14 @@ ghost use Rattle.kbkdf_core.specs.CounterMode.{fixed_input};
 ghost use Rattle.cmac_core.specs.Cmac.{cmac};
 ghost use Rattle.cmac_core.specs.Streams.{HoldsText};
 ghost use Rattle.cmac_core.specs.Derivation.{cmac_kdf, key_block, pipeline_input};
-ghost use Rattle.cmac_core.specs.Steps.{GoesOn, before_counter};
+ghost use Rattle.cmac_core.specs.Steps.{IsAfterBlocks, before_counter};
 
 use crate::stream::{BLOCK, CmacStream};
 use aes_core::Schedule;
 use bits_core::wipe;
 
-/// A mode of key derivation (SP 800-108 Rev. 1, sections 4.1 to 4.3).
+/// A mode of key derivation (SP 800-108 Rev. 1, sections 4.1 to 4.3). The fixed input is the label, a
+/// zero byte, the context and the output's length in bits, as 32 bits; the counter has 32 bits too.
 #[derive(Clone, Copy)]
 pub enum Mode {
     /// K(i) is the CMAC of the counter and the fixed input.
@@ -60,14 +61,14 @@ pub fn kdf(schedule: &Schedule, mode: Mode, label: &[u8], context: &[u8], out: &
         context,
         bits,
     };
-    let mut chained = [0; 16];
+    let mut prefix = [0; 16];
     let mut block = [0; 16];
     for done in 0..out.len().div_ceil(BLOCK) {
         let counter = (done + 1) as u32;
-        next_block(schedule, mode, counter, &input, &mut chained, &mut block);
+        next_block(schedule, mode, counter, &input, &mut prefix, &mut block);
         put_block(out, BLOCK * done, &block);
     }
-    wipe(&mut chained);
+    wipe(&mut prefix);
     wipe(&mut block);
 }
 
@@ -80,75 +81,80 @@ fn put_block(out: &mut [u8], at: usize, block: &[u8; 16])
     out[at..at + size].copy_from_slice(&block[..size]);
 }
 
-// Makes K(i) of K(i-1), and A(i) of A(i-1) where the mode has them, where i is the counter.
+// Makes K(i) of K(i-1), where i is the counter, and in double-pipeline mode A(i) of A(i-1).
 fn next_block(
     schedule: &Schedule,
     mode: Mode,
     counter: u32,
     input: &FixedInput<'_>,
-    chained: &mut [u8; 16],
+    prefix: &mut [u8; 16],
     block: &mut [u8; 16],
 )
     requires expanded { 0 < schedule.now.rounds }
     requires counted { 1 ≤ counter }
     ensures { (key : List ℕ) → IsExpanded schedule.now key
         → let fixed = fixed_input input.now.label.now input.now.context.now input.now.bits in
-        GoesOn mode key fixed (counter - 1) block.old chained.old
-        → (block.new ≡ key_block mode key fixed counter) × GoesOn mode key fixed counter block.new chained.new }
+        IsAfterBlocks mode key fixed (counter - 1) block.old prefix.old
+        → (block.new ≡ key_block mode key fixed counter) × IsAfterBlocks mode key fixed counter block.new prefix.new }
 {
-    let held = prepare(schedule, mode, counter, input, block, chained);
-    block_after(schedule, &chained[..held], counter, input, block);
+    let held = set_prefix(schedule, mode, counter, input, block, prefix);
+    block_after(schedule, &prefix[..held], counter, input, block);
 }
 
-// Puts into `chained` what stands before the counter, and answers how many bytes of it do.
-fn prepare(
+// Puts what stands before the counter into `prefix`, and answers how many bytes that is.
+fn set_prefix(
     schedule: &Schedule,
     mode: Mode,
     counter: u32,
     input: &FixedInput<'_>,
     block: &[u8; 16],
-    chained: &mut [u8; 16],
+    prefix: &mut [u8; 16],
 ) -> usize
     requires expanded { 0 < schedule.now.rounds }
     requires counted { 1 ≤ counter }
     ensures size { result ≤ 16 }
     ensures before { (key : List ℕ) → IsExpanded schedule.now key
         → let fixed = fixed_input input.now.label.now input.now.context.now input.now.bits in
-        GoesOn mode key fixed (counter - 1) block.now chained.old
-        → (take result chained.new ≡ before_counter mode key fixed counter) × GoesOn mode key fixed counter (key_block mode key fixed counter) chained.new }
+        IsAfterBlocks mode key fixed (counter - 1) block.now prefix.old
+        → (take result prefix.new ≡ before_counter mode key fixed counter) × IsAfterBlocks mode key fixed counter (key_block mode key fixed counter) prefix.new }
 {
     match mode {
         Mode::Counter => 0,
         Mode::Feedback => {
-            *chained = *block;
+            *prefix = *block;
             if counter == 1 { 0 } else { BLOCK }
         }
         Mode::Pipeline => {
-            next_input(schedule, counter, input, chained);
+            next_pipeline_input(schedule, counter, input, prefix);
             BLOCK
         }
     }
 }
 
 // Makes A(i) of A(i-1), where i is the counter.
-fn next_input(schedule: &Schedule, counter: u32, input: &FixedInput<'_>, chained: &mut [u8; 16])
+fn next_pipeline_input(
+    schedule: &Schedule,
+    counter: u32,
+    input: &FixedInput<'_>,
+    prefix: &mut [u8; 16],
+)
     requires expanded { 0 < schedule.now.rounds }
     requires counted { 1 ≤ counter }
     ensures { (key : List ℕ) → IsExpanded schedule.now key
         → let fixed = fixed_input input.now.label.now input.now.context.now input.now.bits in
-        (1 < counter → chained.old ≡ pipeline_input key fixed (counter - 1))
-        → chained.new ≡ pipeline_input key fixed counter }
+        (1 < counter → prefix.old ≡ pipeline_input key fixed (counter - 1))
+        → prefix.new ≡ pipeline_input key fixed counter }
 {
     let mut stream = CmacStream::new(schedule);
     if counter == 1 {
         input.feed(&mut stream, schedule);
     } else {
-        stream.update(schedule, chained);
+        stream.update(schedule, prefix);
     }
-    stream.finish(schedule, chained);
+    stream.finish(schedule, prefix);
 }
 
-// The CMAC of some bytes, the counter and the fixed input.
+// Writes the CMAC of some bytes, the counter and the fixed input.
 fn block_after(
     schedule: &Schedule,
     before: &[u8],

@@ -16,7 +16,8 @@ const PADDING: u8 = 0x80;
 
 /// A CMAC that takes its text piece by piece, under one key.
 ///
-/// A block waits until the next byte comes, since the last one is treated apart. It keeps no subkey.
+/// A full block waits until the next byte comes, since the last block is treated apart. A stream keeps
+/// no subkey: `finish` makes them.
 #[derive(Drop)]
 pub struct CmacStream {
     block: [u8; 16],
@@ -24,7 +25,7 @@ pub struct CmacStream {
 }
 
 impl CmacStream {
-    /// A stream that has taken no text, under the key that was expanded.
+    /// A stream that has taken no text. It begins with zeros under any key, so the schedule isn't read.
     pub fn new(_schedule: &Schedule) -> CmacStream
         ensures { (key : List ℕ) → HoldsText result key [] }
     {

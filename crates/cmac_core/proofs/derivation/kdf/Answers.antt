@@ -4,12 +4,12 @@ use Rattle.aes_core.specs.Schedules.{IsExpanded}
 use Rattle.hmac_core.specs.Blocks.{joined}
 use Rattle.kbkdf_core.specs.CounterMode.{fixed_input}
 use Rattle.cmac_core.specs.Derivation.{cmac_kdf, key_block}
-use Rattle.cmac_core.specs.Steps.{GoesOn}
-use Rattle.cmac_core.proofs.KeyBlocks.{goes_on_first, length-key_block, none_yet, one_more}
+use Rattle.cmac_core.specs.Steps.{IsAfterBlocks}
+use Rattle.cmac_core.proofs.KeyBlocks.{after_none, length-key_block, none_yet, one_more}
 use Rattle.cmac_core.proofs.derivation.kdf.Goals as goal
 
 pub loop-done-init : goal.loop-done-init
-loop-done-init c = record { goes_on = λ key is. goes_on_first c.args.mode key _ _ _; front = λ key is. none_yet _ (length c.args.out.now) }
+loop-done-init c = record { after = λ key is. after_none c.args.mode key _ _ _; front = λ key is. none_yet _ (length c.args.out.now) }
 
 pub loop-done-preserved : goal.loop-done-preserved
 loop-done-preserved c =
@@ -18,10 +18,10 @@ loop-done-preserved c =
     let n = c.loop-done.done in
     let fixed = fixed_input c.args.label.now c.args.context.now (8 * total) in
     let back : n ≡ n + 1 - 1 = omega arith in
-    let held : (key : List ℕ) → IsExpanded c.args.schedule.now key → GoesOn mode key fixed (n + 1 - 1) c.loop-done.block c.loop-done.chained =
-    λ key is. subst (λ (m : ℕ). GoesOn mode key fixed m c.loop-done.block c.loop-done.chained) back (c.loop-done.invariant.goes_on key is) in
+    let held : (key : List ℕ) → IsExpanded c.args.schedule.now key → IsAfterBlocks mode key fixed (n + 1 - 1) c.loop-done.block c.loop-done.prefix =
+    λ key is. subst (λ (m : ℕ). IsAfterBlocks mode key fixed m c.loop-done.block c.loop-done.prefix) back (c.loop-done.invariant.after key is) in
     record {
-      goes_on = λ key is. (c.next_block.ensures key is (held key is)).1;
+      after = λ key is. (c.next_block.ensures key is (held key is)).1;
       front = λ key is.
           let f : ℕ → List ℕ = key_block mode key fixed in
           let out = c.loop-done.out in

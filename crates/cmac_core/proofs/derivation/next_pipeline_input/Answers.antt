@@ -5,15 +5,15 @@ use Rattle.cmac_core.specs.Streams.{HoldsText}
 use Rattle.cmac_core.specs.Derivation.{pipeline_input}
 use Rattle.cmac_core.specs.declared.stream.CmacStream.{CmacStream}
 use Rattle.cmac_core.proofs.KeyBlocks.{pipeline_step}
-use Rattle.cmac_core.proofs.derivation.next_input.Goals as goal
-use Rattle.cmac_core.proofs.derivation.next_input.Goals.{then-counter-eq1, else-counter-eq1}
+use Rattle.cmac_core.proofs.derivation.next_pipeline_input.Goals as goal
+use Rattle.cmac_core.proofs.derivation.next_pipeline_input.Goals.{then-counter-eq1, else-counter-eq1}
 
 pub returns : goal.returns
 unfolding pipeline_input
 returns c key is held =
     let i = c.args.counter in
     let fixed = fixed_input c.args.input.now.label.now c.args.input.now.context.now c.args.input.now.bits in
-    let chained = c.args.chained.now in
+    let prefix = c.args.prefix.now in
     elim c.if-counter-eq1.branch [
       | then-counter-eq1 w ↦
           let taken : HoldsText c.if-counter-eq1.stream key fixed =
@@ -21,7 +21,7 @@ returns c key is held =
           let one : i ≡ 1 = omega arith in
           c.finish.ensures key fixed is taken ∙ ap (pipeline_input key fixed) (sym one)
       | else-counter-eq1 w ↦
-          let taken : HoldsText c.if-counter-eq1.stream key chained =
-          subst (λ (s : CmacStream). HoldsText s key chained) (sym w.stream-is) (w.update.ensures key [] is (c.new-stream.ensures key)) in
-          c.finish.ensures key chained is taken ∙ ap (cmac key) (held (omega arith)) ∙ sym (pipeline_step key fixed i (omega arith))
+          let taken : HoldsText c.if-counter-eq1.stream key prefix =
+          subst (λ (s : CmacStream). HoldsText s key prefix) (sym w.stream-is) (w.update.ensures key [] is (c.new-stream.ensures key)) in
+          c.finish.ensures key prefix is taken ∙ ap (cmac key) (held (omega arith)) ∙ sym (pipeline_step key fixed i (omega arith))
     ]
