@@ -3,12 +3,13 @@
 
 CMAC comes from Python's `cryptography`; the subkeys and the three modes of key derivation come from the formulas of
 SP 800-38B, section 6.1, and SP 800-108 Rev. 1, section 4, with a counter and a length of 32 bits and an empty K(0).
-Counter mode is compared with `cryptography`'s own KBKDFCMAC.
+Counter mode is compared with `cryptography`'s own KBKDFCMAC, feedback mode with `openssl kdf`.
 
     python3 checks/cmac_rows.py > crates/cmac_core/src/tests/rows.rt
     (cd crates/cmac_core && rt fmt)
 """
 
+import subprocess
 import sys
 
 sys.dont_write_bytecode = True
@@ -79,12 +80,23 @@ def pipeline(key, fixed, count):
     return blocks
 
 
+def openssl_feedback(key, label, context, length):
+    """What `openssl kdf` derives; it takes no empty label or context."""
+    options = ["mac:CMAC", "cipher:AES-128-CBC", "mode:FEEDBACK", f"hexkey:{key.hex()}"]
+    options += [f"hexsalt:{label.hex()}", f"hexinfo:{context.hex()}"]
+    words = [word for option in options for word in ("-kdfopt", option)]
+    command = ["openssl", "kdf", "-binary", "-keylen", str(length), *words, "KBKDF"]
+    return subprocess.run(command, check=True, capture_output=True).stdout
+
+
 def derived(mode, key, label, context, length):
     fixed = label + b"\0" + context + number(8 * length)
     output = b"".join(mode(key, fixed, (length + 15) // 16))[:length]
     if mode is counter:
         peer = KBKDFCMAC(AES, Mode.CounterMode, length, 4, 4, CounterLocation.BeforeFixed, label, context, None)
         assert peer.derive(key) == output
+    if mode is feedback and label:
+        assert openssl_feedback(key, label, context, length) == output
     return output
 
 

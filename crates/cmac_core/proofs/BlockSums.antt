@@ -3,7 +3,7 @@ use Rattle.bits_core.specs.ByteList.{zeros, zero_padded, xor_bytes}
 use Rattle.bits_core.proofs.ZeroPadding.{get_or-zeros, length-zero_padded}
 use Rattle.bits_core.proofs.XorBytes.{length-xor_bytes, get_or-xor_bytes, is_xor_bytes}
 use Rattle.std.specs.Int.Bits.{xor_zero_r, xor_assoc}
-use Rattle.std.proofs.Common.{◌≡◌, ℕ, zero, suc, ◌+◌, ◌-◌, ◌<◌, ◌≤◌, ◌≢◌, List, [], ◌∷◌, ◌++◌, length, get_or, bit_xor, slice_set, refl, sym, ap, ap₂, ◌∙◌, arith, inl, inr}
+use Rattle.std.proofs.Common.{◌≡◌, ℕ, zero, suc, ◌-◌, ◌<◌, ◌≤◌, ◌≢◌, List, [], ◌∷◌, ◌++◌, length, get_or, bit_xor, slice_set, refl, sym, ap, ap₂, ◌∙◌, arith, inl, inr}
 use Rattle.std.proofs.lemmas.List.{get_or_append_left, get_or_past, get_or_push, length_push, length-set, get_or-set_same, get_or-set_other, append-nil}
 use Rattle.std.proofs.Math.Seq.{get_or-append_right}
 use Rattle.std.proofs.lemmas.Bool.{cases_lt, cases_eq}

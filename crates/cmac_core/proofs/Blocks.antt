@@ -1,11 +1,10 @@
 -- The blocks of a text, and the chain over them.
-use Rattle.bits_core.specs.ByteList.{zeros}
 use Rattle.bits_core.proofs.ZeroPadding.{length-zeros}
 use Rattle.aes_spec.specs.Aes.{cipher}
 use Rattle.aes_spec.specs.Key.{aes}
 use Rattle.cmac_core.specs.Cmac.{blocks_before, chain, cmac, last_block, text_block}
 use Rattle.bits_core.specs.ByteList.{xor_bytes}
-use Rattle.std.proofs.Common.{◌≡◌, ℕ, zero, suc, ◌+◌, ◌-◌, ◌*◌, ◌/◌, ◌<◌, ◌≤◌, List, [], ◌∷◌, ◌++◌, length, take, drop, refl, sym, ap, ap₂, ◌∙◌, arith}
+use Rattle.std.proofs.Common.{◌≡◌, ℕ, zero, suc, ◌+◌, ◌*◌, ◌≤◌, List, ◌++◌, length, take, drop, refl, ap, ap₂, ◌∙◌, arith}
 use Rattle.std.proofs.lemmas.List.{length-drop, drop-append-le, take-append-le}
 
 pub length-aes : (key block : List ℕ) → length (aes key block) ≡ 16

@@ -3,7 +3,6 @@ use Rattle.bits_core.specs.ByteList.{zero_padded, xor_bytes}
 use Rattle.aes_spec.specs.Key.{aes}
 use Rattle.cmac_core.specs.Cmac.{blocks_before, chain, cmac, first_subkey, is_whole, last_block, padded_block, second_subkey, subkey_for}
 use Rattle.cmac_core.specs.Streams.{HoldsText}
-use Rattle.cmac_core.specs.declared.stream.CmacStream.{CmacStream}
 use Rattle.cmac_core.proofs.BlockSums.{xor_bytes-assoc, xor_push, zero_padded-whole}
 use Rattle.cmac_core.proofs.Blocks.{last_fits, length-chain}
 use Rattle.std.proofs.Common.{◌≡◌, ℕ, ◌<◌, ◌≤◌, Bool, true, false, cond, List, [], ◌∷◌, ◌++◌, length, get_or, bit_xor, slice_set, sym, ap, ap₂, ◌∙◌, arith}

@@ -2,11 +2,10 @@
 use Rattle.bits_core.specs.ByteList.{zeros, zero_padded}
 use Rattle.cmac_core.specs.Cmac.{blocks_before, is_whole, last_block, padded_block, text_block}
 use Rattle.cmac_core.proofs.BlockSums.{get_or-zero_padded}
-use Rattle.cmac_core.proofs.Blocks.{last_fits}
 use Rattle.cmac_core.proofs.Closing.{padded_short, padded_whole}
-use Rattle.std.proofs.Common.{◌≡◌, ℕ, zero, suc, ◌+◌, ◌*◌, ◌<◌, ◌≤◌, Bool, true, false, List, [], ◌∷◌, ◌++◌, length, take, drop, get_or, refl, sym, ap, ap₂, ◌∙◌, arith, inl, inr}
+use Rattle.std.proofs.Common.{◌≡◌, ℕ, zero, suc, ◌+◌, ◌*◌, ◌<◌, Bool, true, false, List, [], ◌∷◌, ◌++◌, length, take, get_or, refl, sym, ap, ap₂, ◌∙◌, arith, inl, inr}
 use Rattle.std.proofs.lemmas.List.{append_assoc, get_or_past, get_or_push, length_push, take_at, take-append-drop}
-use Rattle.std.proofs.lemmas.Bool.{cases_lt, eqb-false}
+use Rattle.std.proofs.lemmas.Bool.{cases_lt}
 use Rattle.std.proofs.Math.Seq.{take-add}
 
 -- the bit after the shorter of two texts is one in its padding alone

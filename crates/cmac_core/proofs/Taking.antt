@@ -3,10 +3,9 @@ use Rattle.bits_core.specs.ByteList.{zero_padded, xor_bytes}
 use Rattle.aes_spec.specs.Key.{aes}
 use Rattle.cmac_core.specs.Cmac.{blocks_before, chain, last_block, text_block}
 use Rattle.cmac_core.specs.Streams.{HoldsText}
-use Rattle.cmac_core.specs.declared.stream.CmacStream.{CmacStream}
 use Rattle.cmac_core.proofs.BlockSums.{xor_bytes-zeros, xor_push, zero_padded-whole}
 use Rattle.cmac_core.proofs.Blocks.{chain-append, last_fits, length-aes, length-chain, text_block-append}
-use Rattle.std.proofs.Common.{◌≡◌, ℕ, zero, suc, ◌+◌, ◌-◌, ◌*◌, ◌/◌, ◌<◌, ◌≤◌, List, [], ◌∷◌, ◌++◌, length, take, drop, get_or, bit_xor, slice_set, refl, sym, ap, ap₂, ◌∙◌, arith, add-one}
+use Rattle.std.proofs.Common.{◌≡◌, ℕ, suc, ◌+◌, ◌*◌, ◌<◌, ◌≤◌, List, [], ◌∷◌, ◌++◌, length, drop, get_or, bit_xor, slice_set, sym, ap, ap₂, ◌∙◌, arith}
 use Rattle.std.proofs.lemmas.List.{length-drop, length_push, drop-append-le, drop_at, take_all}
 
 -- a byte more in a block that isn't full

@@ -95,7 +95,8 @@ fn next_block(
     ensures { (key : List ℕ) → IsExpanded schedule.now key
         → let fixed = fixed_input input.now.label.now input.now.context.now input.now.bits in
         IsAfterBlocks mode key fixed (counter - 1) block.old prefix.old
-        → (block.new ≡ key_block mode key fixed counter) × IsAfterBlocks mode key fixed counter block.new prefix.new }
+        → (block.new ≡ key_block mode key fixed counter)
+        × IsAfterBlocks mode key fixed counter block.new prefix.new }
 {
     let held = set_prefix(schedule, mode, counter, input, block, prefix);
     block_after(schedule, &prefix[..held], counter, input, block);
@@ -116,7 +117,8 @@ fn set_prefix(
     ensures before { (key : List ℕ) → IsExpanded schedule.now key
         → let fixed = fixed_input input.now.label.now input.now.context.now input.now.bits in
         IsAfterBlocks mode key fixed (counter - 1) block.now prefix.old
-        → (take result prefix.new ≡ before_counter mode key fixed counter) × IsAfterBlocks mode key fixed counter (key_block mode key fixed counter) prefix.new }
+        → (take result prefix.new ≡ before_counter mode key fixed counter)
+        × IsAfterBlocks mode key fixed counter (key_block mode key fixed counter) prefix.new }
 {
     match mode {
         Mode::Counter => 0,
@@ -164,7 +166,8 @@ fn block_after(
 )
     requires { 0 < schedule.now.rounds }
     ensures { (key : List ℕ) → IsExpanded schedule.now key
-        → out.new ≡ cmac key (before.now ++ to_be_bytes w32 counter ++ fixed_input input.now.label.now input.now.context.now input.now.bits) }
+        → let fixed = fixed_input input.now.label.now input.now.context.now input.now.bits in
+        out.new ≡ cmac key (before.now ++ to_be_bytes w32 counter ++ fixed) }
 {
     let mut stream = CmacStream::new(schedule);
     stream.update(schedule, before);

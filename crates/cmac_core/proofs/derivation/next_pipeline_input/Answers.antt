@@ -1,4 +1,4 @@
-use Rattle.std.proofs.Common.{◌≡◌, ℕ, List, [], ◌-◌, ◌<◌, sym, subst, ap, ◌∙◌, arith}
+use Rattle.std.proofs.Common.{◌≡◌, [], sym, subst, ap, ◌∙◌, arith}
 use Rattle.kbkdf_core.specs.CounterMode.{fixed_input}
 use Rattle.cmac_core.specs.Cmac.{cmac}
 use Rattle.cmac_core.specs.Streams.{HoldsText}

@@ -1,5 +1,4 @@
-use Rattle.std.proofs.Common.{◌≡◌, ℕ, List, get_or, bit_xor, slice_set, ap, ◌∙◌, arith}
-use Rattle.bits_core.specs.ByteList.{xor_bytes}
+use Rattle.std.proofs.Common.{ap, ◌∙◌, arith}
 use Rattle.aes_spec.specs.Key.{aes}
 use Rattle.cmac_core.proofs.Closing.{closed_short, closed_whole}
 use Rattle.cmac_core.proofs.stream.CmacStream.finish.Goals as goal

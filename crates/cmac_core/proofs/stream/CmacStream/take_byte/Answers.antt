@@ -1,4 +1,4 @@
-use Rattle.std.proofs.Common.{◌≡◌, ◌∷◌, ◌+◌, ◌++◌, [], ℕ, List, sym, subst, get_or, bit_xor, slice_set, arith}
+use Rattle.std.proofs.Common.{◌∷◌, ◌+◌, ◌++◌, [], sym, subst, get_or, bit_xor, slice_set, arith}
 use Rattle.cmac_core.specs.Streams.{HoldsText}
 use Rattle.cmac_core.specs.declared.stream.CmacStream.{CmacStream}
 use Rattle.cmac_core.proofs.Taking.{taken_short, taken_full}
