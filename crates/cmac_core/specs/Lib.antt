@@ -1,0 +1,4 @@
+pub mod Cmac
+pub mod Streams
+pub mod Derivation
+pub mod Steps
