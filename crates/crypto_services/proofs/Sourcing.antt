@@ -29,6 +29,6 @@ source_refused {V} engine slots id kind approved why after answer is =
 pub source_given : {V : Type 0} (engine : V) (slots : List Slot) (id : ℕ) (kind : Kind) (approved : Bool) (after : List ℕ → V) (answer : List ℕ → Answer)
     → source_fault (slot_at slots id).header kind approved ≡ None
     → (let key = parameter (slot_at slots id) in
-      let vault : Contents = spent_in (record { slots = slots }) id in
-      on_slot slots id (λ slot. on_source engine (source kind approved slot) after answer) ≡ on_no_slot (after key) vault.slots (answer key))
+    let vault : Contents = spent_in (record { slots = slots }) id in
+    on_slot slots id (λ slot. on_source engine (source kind approved slot) after answer) ≡ on_no_slot (after key) vault.slots (answer key))
 source_given {V} engine slots id kind approved after answer is = rw is refl

@@ -2,15 +2,14 @@
 use Rattle.std.proofs.Common.{◌≡◌, ℕ, zero, suc, ◌≤◌, ◌<◌, ◌%◌, ◌^◌, Bool, true, false, List, [], ◌∷◌, length, bit_xor, refl, ◌∙◌, if◌then◌else◌, arith}
 use Rattle.std.proofs.lemmas.Nat.{xor_of_8, mod_below, pow_below}
 use Rattle.bits_core.specs.declared.algorithm.Alg.{Alg}
-use Rattle.bits_core.specs.Algorithms.{alg_size}
-use Rattle.bits_core.specs.ByteList.{IsBytes, zeros, zero_padded}
+use Rattle.bits_core.specs.ByteList.{IsBytes, zero_padded}
 use Rattle.bits_core.proofs.Bytes.{IsBytes-append, IsBytes-zeros}
 use Rattle.bits_core.proofs.ZeroPadding.{length-zero_padded}
 use Rattle.hmac_core.specs.Hash.{hash}
 use Rattle.hmac_core.specs.Hmac.{hmac}
 use Rattle.hmac_core.proofs.Lengths.{length-hash, length-hmac, size_le}
 use Rattle.hmac_core.proofs.DigestBytes.{IsBytes-hash, IsBytes-hmac}
-use Rattle.engine_core.specs.Calls.{Calls, Keeps}
+use Rattle.engine_core.specs.Calls.{Keeps}
 use Rattle.engine_core.specs.Faults.{turned}
 use Rattle.engine_core.specs.Engines.{shipped_calls, faulty_calls, fails, answered}
 use Rattle.engine_core.specs.declared.faulty.Faulty.{Faulty}

@@ -82,8 +82,8 @@ commands_both calls s t u events mid left held between remainder a b replies mor
 -- the bytes became a command, which was done, and a write failed
 pub cut_off_one : {V : Type 0} (calls : Calls V) (s : MachineState V) (events : List Sample) (held chunk all more : List ℕ) (command : CommandFrame) (count : ℕ) → all ++ more ≡ held ++ chunk → IsCommandFrame command all
     → (let after = step calls s events command in
-      let reply = reply_encoding (reply_to command after) in
-      count < length reply → ReplyCutOff calls s events held chunk after.machine after.left (take count reply))
+    let reply = reply_encoding (reply_to command after) in
+    count < length reply → ReplyCutOff calls s events held chunk after.machine after.left (take count reply))
 cut_off_one calls s events held chunk all more command count e frame less = record {
   commands = [];
   last = command;

@@ -97,8 +97,15 @@ output_at_end {V} calls engine ending m bytes before taken remainder left after 
     let Over : List ℕ → Type 0 = λ xs. Runs calls (initial_state engine) [] xs answered.machine answered.replies left remainder in (
       encoded_replies answered.replies,
       record {
-        short = λ _. (answered.machine, answered.replies, left, remainder, subst Over (sym all) answered.runs, refl,
-            ap exit_status (sym e ∙ ap (λ xs. ending_of (remainder_start xs remainder) remainder) (sym all)));
+        short = λ _. (
+          answered.machine,
+          answered.replies,
+          left,
+          remainder,
+          subst Over (sym all) answered.runs,
+          refl,
+          ap exit_status (sym e ∙ ap (λ xs. ending_of (remainder_start xs remainder) remainder) (sym all)),
+        );
         too_long = λ long. absurd (omega (arith, ap length all, less, long));
       },
       answered.gained,

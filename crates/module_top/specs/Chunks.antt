@@ -24,7 +24,7 @@ pub record ServerState (V : Type 0) : Type 0 where
 
 -- From s, with bytes held and events of noise, a chunk leads to t, to other bytes held, to replies and to the events left.
 pub record CommandsServed {V : Type 0} (calls : Calls V) (s : MachineState V) (events : List Sample) (held chunk : List ℕ) (t : MachineState V) (left : List Sample) (remainder : List ℕ)
-  (replies : List ReplyFrame) : Type 0 where
+    (replies : List ReplyFrame) : Type 0 where
   pub commands : List CommandFrame
   pub whole : held ++ chunk ≡ flat_map command_encoding commands ++ remainder
   pub sendable : AllByRecursion IsSendable commands

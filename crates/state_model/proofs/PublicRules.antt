@@ -122,7 +122,7 @@ used_kept public rules use' = chosen (public.period == 0) refl (state_number pub
     chosen : (none : Bool) → (public.period == 0) ≡ none → (failed : Bool) → (state_number public.state == state_number state.Error) ≡ failed
         → (over : Bool) → (nat_lt 0 public.period && ((if none then public.uses_since_tests else public.uses_since_tests + 1) == public.period && not failed)) ≡ over
         → (let counted : PublicState = record public { uses_since_tests = if none then public.uses_since_tests else public.uses_since_tests + 1 } in
-          IsPublicState (if over then sent_to_tests counted else counted))
+        IsPublicState (if over then sent_to_tests counted else counted))
     chosen none h failed k true over = record {
       period = rules.period;
       counting = λ _ some. some;

@@ -197,8 +197,8 @@ on_source_kept engine slot kind approved after answer well =
 after_kept : {V : Type 0} (s : MachineState V) (engine : V) (slots : List Slot) (over : Bool) → IsMachine s → IsReturn (state_of s) → AreWellFormed (record { slots = slots })
     → IsPublicState (if over then sent_to_tests (use_counted s.shared.public) else use_counted s.shared.public)
     → (let counted : Shared V = record s.shared { public = use_counted s.shared.public; engine = engine } in
-      let after : Shared V = if over then record counted { public = sent_to_tests counted.public; tests_passed = 0 } else counted in
-      let t : MachineState V = record s { shared = after; slots = slots } in IsMachine t)
+    let after : Shared V = if over then record counted { public = sent_to_tests counted.public; tests_passed = 0 } else counted in
+    let t : MachineState V = record s { shared = after; slots = slots } in IsMachine t)
 after_kept s engine slots true rules use' are kept = record {
   public = kept;
   healthy = λ _. rules.healthy (return_is_faultless (state_of s) use');
@@ -217,7 +217,7 @@ after_kept s engine slots false rules use' are kept = record {
 -- a cryptographic service in a role, whatever it made of engine and slots
 pub cryptographic_kept : {V : Type 0} (s : MachineState V) (engine : V) (slots : List Slot) → IsMachine s → is_permitted service.Hash (state_of s) ≡ true → AreWellFormed (record { slots = slots })
     → (let counted : Shared V = record s.shared { public = use_counted s.shared.public; engine = engine } in
-      let t : MachineState V = record s { shared = after_slots counted; slots = slots } in IsMachine t)
+    let t : MachineState V = record s { shared = after_slots counted; slots = slots } in IsMachine t)
 cryptographic_kept s engine slots rules allowed are =
     let use' = return_for_hash (state_of s) allowed in
     after_kept s engine slots (is_period_over (use_counted s.shared.public)) rules use' are (used_kept s.shared.public rules.public use')

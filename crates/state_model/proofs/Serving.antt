@@ -21,8 +21,8 @@ use Rattle.state_model.proofs.Rules.{cryptographic_kept}
 -- public state and tests that passed, settled as values, are those after the slots
 settled_by : {V : Type 0} (counted : Shared V) (over : Bool)
     → (let ended : PublicState × ℕ = if over then (sent_to_tests counted.public, 0) else (counted.public, counted.tests_passed) in
-      let settled : Shared V = record counted { public = ended.0; tests_passed = ended.1 } in
-      let after : Shared V = if over then record counted { public = sent_to_tests counted.public; tests_passed = 0 } else counted in settled ≡ after)
+    let settled : Shared V = record counted { public = ended.0; tests_passed = ended.1 } in
+    let after : Shared V = if over then record counted { public = sent_to_tests counted.public; tests_passed = 0 } else counted in settled ≡ after)
 settled_by counted true = refl
 settled_by counted false = refl
 
@@ -32,9 +32,9 @@ pub served_represents : {V : Type 0} (m : ModuleView V) (samples : List ℕ) (re
     → engine ≡ result.engine → vault ≡ record m.vault { slots = result.slots } → AreWellFormed vault → health ≡ m.health
     → ended ≡ (if is_period_over (use_counted m.public) then (sent_to_tests (use_counted m.public), 0) else (use_counted m.public, m.tests_passed))
     → (let n : ModuleView V = record { public = ended.0; tests_passed = ended.1; engine = engine; health = health; vault = vault; entry = m.entry } in
-      let t : MachineState V = machine_of m samples in
-      let counted : Shared V = record t.shared { public = use_counted t.shared.public; engine = result.engine } in
-      let u : MachineState V = record t { shared = after_slots counted; slots = result.slots } in Represents n u)
+    let t : MachineState V = machine_of m samples in
+    let counted : Shared V = record t.shared { public = use_counted t.shared.public; engine = result.engine } in
+    let u : MachineState V = record t { shared = after_slots counted; slots = result.slots } in Represents n u)
 served_represents {V} m samples result engine vault health ended rules allowed counts same_engine same_vault are same_health settled =
     let t : MachineState V = machine_of m samples in
     let counted : Shared V = record t.shared { public = use_counted t.shared.public; engine = result.engine } in
@@ -47,11 +47,11 @@ served_represents {V} m samples result engine vault health ended rules allowed c
   where
     by_over : {V : Type 0} (m : ModuleView V) (samples : List ℕ) (result : SlotsResult V) (over : Bool) → Counts m.health samples
         → (let t : MachineState V = machine_of m samples in
-          let counted : Shared V = record t.shared { public = use_counted t.shared.public; engine = result.engine } in
-          let after : Shared V = if over then record counted { public = sent_to_tests counted.public; tests_passed = 0 } else counted in
-          let u : MachineState V = record t { shared = after; slots = result.slots } in
-          let ended : PublicState × ℕ = if over then (sent_to_tests counted.public, 0) else (counted.public, counted.tests_passed) in
-          let n : ModuleView V = record { public = ended.0; tests_passed = ended.1; engine = result.engine; health = m.health; vault = record m.vault { slots = result.slots }; entry = m.entry } in
-          IsWellFormed u → machine_of n samples ≡ u → Represents n u)
+        let counted : Shared V = record t.shared { public = use_counted t.shared.public; engine = result.engine } in
+        let after : Shared V = if over then record counted { public = sent_to_tests counted.public; tests_passed = 0 } else counted in
+        let u : MachineState V = record t { shared = after; slots = result.slots } in
+        let ended : PublicState × ℕ = if over then (sent_to_tests counted.public, 0) else (counted.public, counted.tests_passed) in
+        let n : ModuleView V = record { public = ended.0; tests_passed = ended.1; engine = result.engine; health = m.health; vault = record m.vault { slots = result.slots }; entry = m.entry } in
+        IsWellFormed u → machine_of n samples ≡ u → Represents n u)
     by_over m samples result true fine kept same = record { same = same; well_formed = kept; counts = λ _. fine }
     by_over m samples result false fine kept same = record { same = same; well_formed = kept; counts = λ _. fine }

@@ -46,7 +46,7 @@ each_empty id =
 -- done, or refused where it isn't permitted or not of its form
 emptied_by : {V : Type 0} (calls : Calls V) (s : MachineState V) (events : List Sample) (what : RequestValue) → (perform calls s events what).machine.slots ≡ no_slots → (allowed whole : Bool)
     → (let after : Stepped V = if allowed then dispatch_request calls s events (if whole then Some what else None) else refused s status.NotInState events in
-      after.status ≡ status.Ok → (id : ℕ) → slot_at after.machine.slots id ≡ empty_slot)
+    after.status ≡ status.Ok → (id : ℕ) → slot_at after.machine.slots id ≡ empty_slot)
 emptied_by calls s events what none true true ok id = ap (λ (slots : List Slot). slot_at slots id) none ∙ each_empty id
 emptied_by calls s events what none true false ok id = cc
 emptied_by calls s events what none false whole ok id = cc
@@ -55,7 +55,7 @@ pub empties_all : {V : Type 0} (calls : Calls V) → ZeroisingEmptiesAll calls
 unfolding step
 empties_all {V} calls s events command which =
     let Empties : Option Service → Type 0 = λ found. (dispatch calls s events found command.body).status ≡ status.Ok
-        → (id : ℕ) → slot_at (dispatch calls s events found command.body).machine.slots id ≡ empty_slot in
+    → (id : ℕ) → slot_at (dispatch calls s events found command.body).machine.slots id ≡ empty_slot in
     elim which [
       | inl all ↦ subst Empties (sym all) (emptied_by calls s events request.ZeroiseAll refl (is_permitted service.ZeroiseAll (state_of s)) (length command.body == 0))
       | inr reset ↦ subst Empties (sym reset) (emptied_by calls s events request.Reset refl (is_permitted service.Reset (state_of s)) (length command.body == 0))
@@ -71,7 +71,7 @@ laid_empty slots id =
 
 one_emptied : {V : Type 0} (calls : Calls V) (s : MachineState V) (events : List Sample) (slot : ℕ) (read : Option RequestValue) → read ≡ Some (request.Zeroise slot) → (allowed : Bool)
     → (let after : Stepped V = if allowed then dispatch_request calls s events read else refused s status.NotInState events in
-      after.status ≡ status.Ok → (slot_at after.machine.slots slot ≡ empty_slot) × ((other : ℕ) → other ≢ slot → slot_at after.machine.slots other ≡ slot_at s.slots other))
+    after.status ≡ status.Ok → (slot_at after.machine.slots slot ≡ empty_slot) × ((other : ℕ) → other ≢ slot → slot_at after.machine.slots other ≡ slot_at s.slots other))
 one_emptied calls s events slot read is true ok = rw is (laid_empty s.slots slot, λ other apart. get_or-set_other s.slots slot other empty_slot empty_slot apart)
 one_emptied calls s events slot read is false ok = cc
 
@@ -87,7 +87,7 @@ empties_one {V} calls s events command slot = by_service (service_numbered comma
 
 -- no status of a service is one of a refusal at once
 not_at_once : (why : Status) → why ≢ status.UnknownService → why ≢ status.NotInState → why ≢ status.BadBody → IsRefusedAtOnce why → ⊥
-not_at_once why a b c which = elim which [ | inl x ↦ a x | inr y ↦ (elim y [ | inl z ↦ b z | inr w ↦ c w ]) ]
+not_at_once why a b c which = elim which [ inl x ↦ a x | inr y ↦ (elim y [ inl z ↦ b z | inr w ↦ c w ]) ]
 
 slot_not_at_once : (why : SlotFault) → IsRefusedAtOnce (fault_status why) → ⊥
 slot_not_at_once fault.EmptySlot = not_at_once status.EmptySlot (λ e. cc) (λ e. cc) (λ e. cc)
@@ -132,7 +132,7 @@ refusals_unchanged calls s events command = dispatched_unchanged calls s events 
 -- what was done, or checked, was refused by no slot
 not_by_slot : (why : Status) → why ≢ status.EmptySlot → why ≢ status.WrongKind → why ≢ status.WrongDomain → why ≢ status.Spent → why ≢ status.OccupiedSlot → IsRefusedBySlot why → ⊥
 not_by_slot why a b c d e which =
-    elim which [ | inl x ↦ a x | inr p ↦ (elim p [ | inl y ↦ b y | inr q ↦ (elim q [ | inl z ↦ c z | inr r ↦ (elim r [ | inl u ↦ d u | inr w ↦ e w ]) ]) ]) ]
+    elim which [ inl x ↦ a x | inr p ↦ (elim p [ inl y ↦ b y | inr q ↦ (elim q [ inl z ↦ c z | inr r ↦ (elim r [ inl u ↦ d u | inr w ↦ e w ]) ]) ]) ]
 
 ok_by_no_slot : IsRefusedBySlot status.Ok → ⊥
 ok_by_no_slot = not_by_slot status.Ok (λ e. cc) (λ e. cc) (λ e. cc) (λ e. cc) (λ e. cc)

@@ -254,11 +254,7 @@ impl<E: Engine> Module<E> {
     }
 
     // Does a cryptographic service: the use is counted before the slots are looked at, and the period may be over after that.
-    fn run_cryptographic_service(
-        &mut self,
-        request: &Request<'_>,
-        payload: &mut Outbox,
-    ) -> Outcome
+    fn run_cryptographic_service(&mut self, request: &Request<'_>, payload: &mut Outbox) -> Outcome
         requires payload { payload.old ≡ holding [] 65664 }
         requires cryptographic { (what : CryptographicRequest) × (request_value request.now ≡ Cryptographic what) × IsCryptographicInRange what }
         requires permitted { is_permitted Service.Hash self.old.public.state ≡ true }
@@ -315,12 +311,7 @@ impl<E: Engine> Module<E> {
     }
 
     // Walks the order of refusals, and does what is asked where the command passes.
-    fn dispatch(
-        &mut self,
-        command: &Command,
-        block: &mut [u8; 12],
-        payload: &mut Outbox,
-    ) -> Outcome
+    fn dispatch(&mut self, command: &Command, block: &mut [u8; 12], payload: &mut Outbox) -> Outcome
         requires block { block.old ≡ no_block }
         requires payload { payload.old ≡ holding [] 65664 }
         ensures answer { (s : MachineState E) (events : List Sample) → Represents self.old s →

@@ -25,7 +25,7 @@ returns-in-Ok-clause-output g c bytes before told gained =
     let is : form_of (map string_bytes c.args.words.now) ≡ Some form.Serve = sym c.form_of.ensures ∙ c.in-Some-Serve.is ∙ ap Some (only_serve c.in-Some-Serve.field-0) in
     let served = rw (told, gained) at c.in-Ok.ensures.served.2 in
     let Out : Option Form → Type 0 = λ of. exit_status c.in-Ok.ended ≢ 5 → exit_status c.in-Ok.ended ≢ 6 →
-        (out : List ℕ) × IsOutputOf g.E.Engine.calls c.args.engine of bytes (exit_status c.in-Ok.ended) out × (g.K.Sink.gained c.open_and_serve.new.replies ≡ Some (before ++ out)) in
+    (out : List ℕ) × IsOutputOf g.E.Engine.calls c.args.engine of bytes (exit_status c.in-Ok.ended) out × (g.K.Sink.gained c.open_and_serve.new.replies ≡ Some (before ++ out)) in
     rw c.exit_status.ensures
     (λ no_read no_write _. subst Out (sym is) (output_of g.E.Engine.calls c.args.engine c.in-Ok.ended _ c.in-Ok.ensures.served.0 bytes before c.in-Ok.ensures.served.1 _ served) no_read no_write)
 

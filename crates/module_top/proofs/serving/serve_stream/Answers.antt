@@ -25,9 +25,13 @@ returns-in-Err-clause-served g c s represents =
     let i = c.loop-taken.invariant in
     let so_far = i.served in
     let consumes = subst (λ left. Consumes (g.S.Source.left c.args.commands.now) so_far.0 left) (sym c.in-Err.ensures.kept) so_far.1 in
-    explained_by _ _ so_far.3 (λ events left served.
-    (so_far.0, c.loop-taken.frames.bytes, consumes, answered_of g.E.Engine.calls _ _ s represents served i.incomplete.unfinished,
-      (omega (arith, so_far.2, c.loop-taken-test.true), i.incomplete.no_fault)))
+    explained_by _ _ so_far.3 (λ events left served. (
+      so_far.0,
+      c.loop-taken.frames.bytes,
+      consumes,
+      answered_of g.E.Engine.calls _ _ s represents served i.incomplete.unfinished,
+      (omega (arith, so_far.2, c.loop-taken-test.true), i.incomplete.no_fault),
+    ))
 
 pub returns-in-Ok-eq0-clause-served : goal.returns-in-Ok-eq0-clause-served
 returns-in-Ok-eq0-clause-served g c s represents =
@@ -94,6 +98,10 @@ pub returns-clause-served : goal.returns-clause-served
 returns-clause-served g c s represents =
     let i = c.loop-taken.invariant in
     let so_far = i.served in
-    explained_by _ _ so_far.3 (λ events left served.
-    (so_far.0, c.loop-taken.frames.bytes, so_far.1, answered_of g.E.Engine.calls _ _ s represents served i.incomplete.unfinished,
-      (omega (arith, so_far.2, i.within, c.loop-taken-test.false), i.incomplete.no_fault)))
+    explained_by _ _ so_far.3 (λ events left served. (
+      so_far.0,
+      c.loop-taken.frames.bytes,
+      so_far.1,
+      answered_of g.E.Engine.calls _ _ s represents served i.incomplete.unfinished,
+      (omega (arith, so_far.2, i.within, c.loop-taken-test.false), i.incomplete.no_fault),
+    ))

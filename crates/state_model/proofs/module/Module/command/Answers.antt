@@ -14,13 +14,15 @@ pub returns-clause-step : goal.returns-clause-step
 returns-clause-step g c =
     explained_none _ _ (λ events s represents.
     let result = c.dispatch-outcome.ensures.answer s events represents in
-    let public = ap (λ (m : ModuleView g.row.E.Denot). m.public) c.self-2.view_is in
-    (record {
-      represents = result.0.represents;
-      answer = rw (c.service-reply.ensures, public)
-          (replied c.args.command.now (step g.E.Engine.calls s events c.args.command.now) c.dispatch-outcome.new.self c.dispatch-outcome.result.approved c.dispatch-outcome.result.status
-          c.dispatch-outcome.new.block c.dispatch-outcome.new.payload.bytes result.0 c.dispatch-outcome.ensures.approved);
-    }, result.1))
+    let public = ap (λ (m : ModuleView g.row.E.Denot). m.public) c.self-2.view_is in (
+      record {
+        represents = result.0.represents;
+        answer = rw (c.service-reply.ensures, public)
+            (replied c.args.command.now (step g.E.Engine.calls s events c.args.command.now) c.dispatch-outcome.new.self c.dispatch-outcome.result.approved c.dispatch-outcome.result.status
+            c.dispatch-outcome.new.block c.dispatch-outcome.new.payload.bytes result.0 c.dispatch-outcome.ensures.approved);
+      },
+      result.1,
+    ))
 
 pub returns-clause-noise_failed : goal.returns-clause-noise_failed
 returns-clause-noise_failed g c fault =

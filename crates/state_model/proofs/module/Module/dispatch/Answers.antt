@@ -31,7 +31,7 @@ returns-then-not-permitted-clause-answer g c s events represents =
     (refused_leaves c.args.self.now s events _ c.args.block.now _ represents c.requires.block (ap (λ (contents : OutboxContents). contents.bytes) c.requires.payload), refl)
 
 pub returns-then-not-permitted-clause-approved : goal.returns-then-not-permitted-clause-approved
-returns-then-not-permitted-clause-approved g c = rw c.management_outcome-then-not-permitted.ensures 
+returns-then-not-permitted-clause-approved g c = rw c.management_outcome-then-not-permitted.ensures
     (sym (not_indicated (request_at (service_numbered c.args.command.now.service) c.args.command.now.body) status.NotInState c.args.self.now.vault.slots refl))
 
 pub returns-in_default-read_request-clause-answer : goal.returns-in_default-read_request-clause-answer
@@ -48,7 +48,7 @@ returns-then-is_cryptographic-clause-answer g c s events represents =
     let leave = rw (same_state c.self.view_is represents) at (sym c.permitted.ensures ∙ c.if-not-permitted.false) in
     let good = rw c.body.ensures.body at (sym c.read_request.ensures.read ∙ ap (option_map request_value) c.in-Some-read_request.is) in
     let what = cryptographic_request (request_value c.in-Some-read_request.request)
-        (ap is_cryptographic c.in-Some-read_request.ensures.of_service ∙ sym c.is_cryptographic.ensures ∙ c.if-is_cryptographic.true) c.in-Some-read_request.ensures.in_range in
+    (ap is_cryptographic c.in-Some-read_request.ensures.of_service ∙ sym c.is_cryptographic.ensures ∙ c.if-is_cryptographic.true) c.in-Some-read_request.ensures.in_range in
     rw (step_requested g.E.Engine.calls s events c.args.command.now c.in-Some.service known leave, good, what.1, c.requires.block)
     (c.run_cryptographic_service.ensures.answer s events what.0 represents what.1, refl)
 

@@ -13,12 +13,14 @@ pub invariant_of-self : goal.invariant_of-self
 invariant_of-self g c =
     let officer = rw (← c.self.view_is) at c.requires.officer in
     let held = c.self.invariant in
-    let t : MachineState g.row.E.Denot = machine_of (view_of c.self.inside) held.0.shared.samples in
-    (entry_begin t c.args.target.now, rw (c.entry_begun-self-inside.ensures, c.begin.ensures) (record {
-      same = refl;
-      well_formed = entry_begin_kept t c.args.target.now (rules_here held.1) officer c.requires.slot c.requires.uses (omega arith) c.requires.fits;
-      counts = λ _. held.1.counts (λ e. cc);
-    }))
+    let t : MachineState g.row.E.Denot = machine_of (view_of c.self.inside) held.0.shared.samples in (
+      entry_begin t c.args.target.now,
+      rw (c.entry_begun-self-inside.ensures, c.begin.ensures) (record {
+        same = refl;
+        well_formed = entry_begin_kept t c.args.target.now (rules_here held.1) officer c.requires.slot c.requires.uses (omega arith) c.requires.fits;
+        counts = λ _. held.1.counts (λ e. cc);
+      }),
+    )
 
 pub returns : goal.returns
 returns g c s represents =

@@ -21,12 +21,14 @@ invariant_of-self g c =
     let rules = rules_here held.1 in
     let within = underway_within c.self.inside.entry (rules.entering entering) in
     let fits : c.self.inside.entry.filled + length c.args.piece.now ≤ entry_length c.self.inside.entry = omega (arith, within, c.length.ensures) in
-    let are_bytes : IsBytes c.args.piece.now = λ n. omega (arith, c.type_inv.piece n) in
-    (record t { entry = with_piece t.entry c.args.piece.now }, rw c.append.ensures (record {
-      same = refl;
-      well_formed = entry_bytes_kept t c.args.piece.now are_bytes rules entering fits;
-      counts = held.1.counts;
-    }))
+    let are_bytes : IsBytes c.args.piece.now = λ n. omega (arith, c.type_inv.piece n) in (
+      record t { entry = with_piece t.entry c.args.piece.now },
+      rw c.append.ensures (record {
+        same = refl;
+        well_formed = entry_bytes_kept t c.args.piece.now are_bytes rules entering fits;
+        counts = held.1.counts;
+      }),
+    )
 
 pub returns : goal.returns
 returns g c s events represents =

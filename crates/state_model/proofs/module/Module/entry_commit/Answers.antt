@@ -16,14 +16,16 @@ invariant_of-self g c =
     let rules = rules_here held.1 in
     elim c.match-self.branch [
       | in-Some w ↦ (
-        let parts = w.commit-status.new.parts in
-        let u : MachineState g.row.E.Denot = with_slots t parts.engine parts.vault.slots in
-        (entry_over u, rw (c.entry_ended-self-inside.ensures, c.clear.ensures, w.self-inside-is) (record {
-          same = refl;
-          well_formed = entry_over_kept u (slots_kept t parts.engine parts.vault.slots rules (w.commit-status.ensures.well_formed rules.slots)) entering;
-          counts = λ _. rw w.commit-status.ensures.leaves.0.health (held.1.counts (λ e. cc));
-        }))
-      )
+          let parts = w.commit-status.new.parts in
+          let u : MachineState g.row.E.Denot = with_slots t parts.engine parts.vault.slots in (
+            entry_over u,
+            rw (c.entry_ended-self-inside.ensures, c.clear.ensures, w.self-inside-is) (record {
+              same = refl;
+              well_formed = entry_over_kept u (slots_kept t parts.engine parts.vault.slots rules (w.commit-status.ensures.well_formed rules.slots)) entering;
+              counts = λ _. rw w.commit-status.ensures.leaves.0.health (held.1.counts (λ e. cc));
+            }),
+          )
+          )
       | in-None w ↦ (
         entry_over t,
         rw (c.entry_ended-self-inside.ensures, c.clear.ensures, w.self-inside-is) (record {

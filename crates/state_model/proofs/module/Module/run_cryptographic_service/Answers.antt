@@ -17,10 +17,12 @@ invariant_of-self g c =
     let rules = rules_here held.1 in
     let serves = c.run_cryptographic_service-outcome.ensures.serves c.requires.cryptographic.0 c.requires.cryptographic.1 in
     let parts = c.run_cryptographic_service-outcome.new.parts in
-    let settled = rw c.use_counted-counted.ensures at c.settled-tests_passed.ensures in
-    (_, served_represents (view_of c.self.inside) held.0.shared.samples
-    (service_at g.E.Engine.calls c.self.inside.parts.engine [] c.self.inside.parts.vault.slots c.requires.cryptographic.0) parts.engine parts.vault parts.health c.settled-tests_passed.result
-    rules allowed held.1.counts serves.leaves.engine serves.leaves.vault (c.run_cryptographic_service-outcome.ensures.well_formed rules.slots) serves.leaves.health settled)
+    let settled = rw c.use_counted-counted.ensures at c.settled-tests_passed.ensures in (
+      _,
+      served_represents (view_of c.self.inside) held.0.shared.samples
+          (service_at g.E.Engine.calls c.self.inside.parts.engine [] c.self.inside.parts.vault.slots c.requires.cryptographic.0) parts.engine parts.vault parts.health c.settled-tests_passed.result
+          rules allowed held.1.counts serves.leaves.engine serves.leaves.vault (c.run_cryptographic_service-outcome.ensures.well_formed rules.slots) serves.leaves.health settled,
+    )
 
 pub returns-clause-answer : goal.returns-clause-answer
 returns-clause-answer g c s events what represents is =
@@ -43,8 +45,8 @@ returns-clause-answer g c s events what represents is =
       entry = c.self.inside.entry;
     } in
     let there = served_represents (view_of c.self.inside) s.shared.samples
-        (service_at g.E.Engine.calls c.self.inside.parts.engine [] c.self.inside.parts.vault.slots what) parts.engine parts.vault parts.health c.settled-tests_passed.result
-        rules allowed held.counts serves.leaves.engine serves.leaves.vault (c.run_cryptographic_service-outcome.ensures.well_formed rules.slots) serves.leaves.health settled in
+    (service_at g.E.Engine.calls c.self.inside.parts.engine [] c.self.inside.parts.vault.slots what) parts.engine parts.vault parts.health c.settled-tests_passed.result
+    rules allowed held.counts serves.leaves.engine serves.leaves.vault (c.run_cryptographic_service-outcome.ensures.well_formed rules.slots) serves.leaves.health settled in
     let leaves : IsServiceResult (cryptographic_step g.E.Engine.calls t events what) after outcome.status no_block payload =
     record { represents = there; same_status = ap (λ (o : Outcome). o.status) serves.same_outcome; same_block = refl; same_payload = serves.same_payload } in
     let From : MachineState g.row.E.Denot → Type 0 = λ u. IsServiceResult (cryptographic_step g.E.Engine.calls u events what) after outcome.status no_block payload in
