@@ -44,7 +44,7 @@ fault_within : (start : ℕ) (fault : Option ℕ) (offset : ℕ) → option_map 
 fault_within start None offset h = cc
 fault_within start (Some within) offset h = (within, refl)
 
--- bytes that show a fault at a offset in the stream show one
+-- bytes that show a fault at an offset in the stream show one
 pub shown_fault : (start : ℕ) (bytes : List ℕ) (offset : ℕ) → fault_from start bytes ≡ Some offset → (within : ℕ) × (first_fault bytes ≡ Some within)
 shown_fault start bytes offset h = fault_within start (first_fault bytes) offset h
 

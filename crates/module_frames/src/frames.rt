@@ -18,7 +18,7 @@ pub enum Fed {
     More,
     /// So many bytes of the piece were taken, and one command stands.
     Whole(usize),
-    /// The bytes show a fault at this offset, its start in the whole stream: that of the wrong byte, or of the first byte
+    /// The bytes show a fault at this offset in the whole stream: that of the wrong byte, or of the first byte
     /// of a length that is too large.
     BadFrame(u64),
 }
@@ -142,7 +142,7 @@ impl Frames {
         Ok(taken)
     }
 
-    // FeedsPiece bytes of the body, and says how many.
+    // Takes bytes of the body, and says how many.
     fn take_body(&mut self, piece: &[u8]) -> usize
         requires no_fault { self.old.fault ≡ None }
         requires headed { 8 ≤ length self.old.bytes }
@@ -166,7 +166,7 @@ impl Frames {
         self.count == 8 && self.command.body().len() == body_length(&self.header)
     }
 
-    /// FeedsPiece bytes from the front of the next piece of the stream, up to the end of a command.
+    /// Takes bytes from the front of the next piece of the stream, up to the end of a command.
     /// Once it has answered `BadFrame` it holds nothing, and answers the same offset for good.
     /// Where a command stands it takes nothing, and answers `Whole(0)`.
     /// All pieces of a stream together have at most 2^63 bytes.

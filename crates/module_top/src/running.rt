@@ -80,7 +80,7 @@ pub fn run<E: Engine, S: Source, K: Sink>(
     replies: &mut K,
     engine: E,
 ) -> u8
-    // Where no call fails and memory was found, status and written bytes are those of the definition, endingever the source hands
+    // Where no call fails and memory was found, status and written bytes are those of the definition, however the source hands
     // out its bytes.
     ensures output { (bytes before : List ℕ) → S.left commands.old ≡ Some bytes → K.gained replies.old ≡ Some before →
         result ≢ 5 → result ≢ 6 → result ≢ 7 →

@@ -22,7 +22,7 @@ use state_model::Module;
 pub enum Ended {
     /// The source ended at a frame's boundary, and each command was answered.
     End,
-    /// The bytes show a fault at this offset, its start in the whole stream: that of the wrong byte, or of the first byte
+    /// The bytes show a fault at this offset in the whole stream: that of the wrong byte, or of the first byte
     /// of a length that is too large. The commands before it were answered.
     BadFrame(u64),
     /// The source ended inside a frame. The commands before it were answered.
