@@ -20,7 +20,7 @@ fi
 
 bytes=1000
 # Each with a key of 32 bytes and a text of $bytes bytes.
-works='absorb lanes'
+works='absorb lanes seal open refuse'
 # It reads a table at places that the text gives, so the check must find it: else the check sees nothing.
 control=table
 
