@@ -1,40 +1,32 @@
 #!/usr/bin/env bash
-# Times the proved `serve` on Hash commands (SHA-256) over texts of 64 KiB, four thousand or as many as the first word says, beside
-# Python's hashlib over the same texts in the same run. Of three runs the shortest counts.
-set -eu
-count=${1:-4000}
+# The proved `serve` on Hash commands (SHA-256) over texts of 64 KiB, a thousand or as many as the first word says, beside
+# Python's hashlib over the same texts.
 . "$(dirname "$0")/served.sh"
-python3 - "$count" <<'END'
+count=${1:-1000}
+cat >commands.py <<'END'
 import sys
 
 body = b"\x01" + bytes(65_536)
 begin = ["c50101000000000400000000", "c501030000000000"] + ["c501020000000000"] * 3 + ["c50106000000000102"]
-with open("commands", "wb") as out:
-    out.write(bytes.fromhex("".join(begin)))
-    for _ in range(int(sys.argv[1])):
-        out.write(bytes.fromhex("c5011000") + len(body).to_bytes(4, "big") + body)
+sys.stdout.buffer.write(bytes.fromhex("".join(begin)))
+for _ in range(int(sys.argv[1])):
+    sys.stdout.buffer.write(bytes.fromhex("c5011000") + len(body).to_bytes(4, "big") + body)
 END
 cat >peer.py <<'END'
 import hashlib
 import sys
 
-with open("commands", "rb") as all:
-    all.read(53)
-    while all.read(9):
-        sys.stdout.buffer.write(hashlib.sha256(all.read(65_536)).digest())
+commands = sys.stdin.buffer
+commands.read(53)
+while commands.read(9):
+    sys.stdout.buffer.write(hashlib.sha256(commands.read(65_536)).digest())
 END
+python3 commands.py $((count / 10)) >few
+python3 commands.py $((count + count / 10)) >many
 
-serve=$(least "$program" serve)
-tail -c 32 replies >digest
-peer=$(least python3 peer.py)
-if ! tail -c 32 replies | cmp -s - digest; then
-    echo 'digest: FAILED: the last digests differ' >&2
-    exit 1
-fi
-grep -m1 'model name' /proc/cpuinfo || true
-awk -v count="$count" -v serve="$serve" -v peer="$peer" 'BEGIN {
-    mb = count * 65536 / 1e6
-    printf "serve   %.0f MB of texts in %.3f s: %.0f MB/s\n", mb, serve, mb / serve
-    printf "hashlib %.0f MB of texts in %.3f s: %.0f MB/s\n", mb, peer, mb / peer
-    printf "ratio   %.2f\n", peer / serve
-}'
+ours=$(served replies "$program" serve)
+peer=$(served digests python3 peer.py)
+cmp -s <(tail -c 32 replies) <(tail -c 32 digests) || fail 'the last digests differ'
+what_runs_here
+bytes=$((65536 * count))
+beside 'Hash, SHA-256 of 64 KiB' "$(speed_of "$bytes" "${ours}000000")" MB/s "Python's hashlib" "$(speed_of "$bytes" "${peer}000000")"

@@ -1,33 +1,12 @@
 #!/usr/bin/env bash
-# HMAC-SHA-256 over 64 KiB, a request for 65,536 random bytes and a derivation of 32 bytes on the proved
-# build, beside Python's hmac over OpenSSL and `openssl speed`, in one run. Each function's processor time
-# is taken from outside at two counts, and the difference counts.
-set -eu
-cd "$(dirname "$0")/../crates/hmac_bench"
-[ -x out/hmac_bench ] || rt run -- hmac 1 >/dev/null 2>&1
-
-# milliseconds of processor time of a run of FUNCTION COUNT, the least of five
-milliseconds() {
-    local TIMEFORMAT=%3U best= spent
-    for _ in 1 2 3 4 5; do
-        spent=$({ time ./out/hmac_bench "$@" >/dev/null; } 2>&1)
-        spent=$((10#${spent/./}))
-        if [ -z "$best" ] || [ "$spent" -lt "$best" ]; then best=$spent; fi
-    done
-    echo "$best"
-}
-
-# nanoseconds of one turn of FUNCTION, between COUNT and five times COUNT
-turn() {
-    echo $((($(milliseconds "$1" $((5 * $2))) - $(milliseconds "$1" "$2")) * 1000000 / (4 * $2)))
-}
-
-# The same three by Python's hmac, whose SHA-256 is OpenSSL's.
-peer() {
-    python3 - "$1" "$2" <<'PEER'
+# HMAC-SHA-256 over 64 KiB, a request for 65,536 random bytes and a derivation of 32 bytes on the proved build, beside
+# Python's hmac over OpenSSL. HMAC, and the HMACs of 32 bytes under one key of which a request has 2,048, also beside
+# `openssl speed`.
+. "$(dirname "$0")/seconds.sh"
+program=$(proved hmac_bench -- hmac 1)
+cat >"$room/peer.py" <<'END'
 import hmac
 import sys
-import time
 
 
 def mac(key, text):
@@ -58,31 +37,19 @@ def derivations(count):
         key = mac(key, b"\0\0\0\1label\0context\0\0\1\0")
 
 
-work = {"hmac": macs, "generate": requests, "derive": derivations}[sys.argv[1]]
-count = int(sys.argv[2])
-best = None
-for _ in range(5):
-    start = time.process_time_ns()
-    work(count)
-    taken = (time.process_time_ns() - start) // count
-    best = taken if best is None else min(best, taken)
-print(best)
-PEER
+{"hmac": macs, "generate": requests, "derive": derivations}[sys.argv[1]](int(sys.argv[2]))
+END
+
+# line NAME WORK BYTES COUNT PEER'S COUNT [PEER'S NAME AND FIGURE..]
+line() {
+    local name=$1 work=$2 bytes=$3 count=$4 peer_count=$5 ours peer
+    shift 5
+    ours=$(turn "$count" "$program" "$work")
+    peer=$(turn "$peer_count" python3 "$room/peer.py" "$work")
+    beside "$name" "$(speed_of "$bytes" "$ours")" MB/s "Python's hmac" "$(speed_of "$bytes" "$peer")" "$@"
 }
 
-row() {
-    awk -v name="$1" -v bytes="$2" -v ours="$3" -v peer="$4" 'BEGIN {
-        printf "%-28s %10.1f us %8.1f MB/s   Python %10.1f us %8.1f MB/s   ratio %.2f\n",
-            name, ours / 1000, bytes * 1000 / ours, peer / 1000, bytes * 1000 / peer, ours / peer }'
-}
-
-grep -m1 'model name' /proc/cpuinfo | sed 's/.*: //'
-openssl version
-row 'HMAC-SHA-256 of 64 KiB' 65536 "$(turn hmac 400)" "$(peer hmac 200)"
-row 'request of 65,536 bytes' 65536 "$(turn generate 100)" "$(peer generate 20)"
-row 'derivation of 32 bytes' 32 "$(turn derive 100000)" "$(peer derive 20000)"
-# A request is 2,048 HMACs of 32 bytes under one key, as `openssl speed` makes them at 32 bytes.
-for length in 65536 32; do
-    openssl speed -hmac sha256 -bytes "$length" -seconds 1 2>/dev/null |
-        awk -v length_="$length" '/^hmac/ { printf "openssl speed -hmac sha256, %5d bytes: %8.1f MB/s\n", length_, $2 / 1000 }'
-done
+what_runs_here
+line 'HMAC-SHA-256 of 64 KiB' hmac 65536 400 1000 'openssl speed -hmac' "$(openssl_rate "$on" 65536 -hmac sha256)"
+line 'request of 65,536 bytes' generate 65536 100 20 'openssl speed -hmac, 32 bytes' "$(openssl_rate "$on" 32 -hmac sha256)"
+line 'derivation of 32 bytes' derive 32 100000 20000

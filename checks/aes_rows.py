@@ -34,14 +34,15 @@ def text_sum(keys, length):
 
 
 def counter_rows():
-    """Length of the key, last four bytes of the start, checksums of lengths 0 to 300 and of 65,594."""
+    """By the length of the key: last four bytes of the start, checksums of lengths 0 to 300 and of 65,594."""
     lasts = [2**32 - 1 - lane for lane in range(16)] + [1]
-    rows = [(32, last) for last in lasts] + [(16, 0xFFFFFFF8), (24, 0xFFFFFFF8)]
-    for key_bytes, last in rows:
-        start = COUNTED[:12] + last.to_bytes(4, "big")
-        keys = stream(cipher(COUNTED[:key_bytes]), start, 4100)
-        short = checksum(text_sum(keys, length) for length in range(301))
-        print(f"({key_bytes}, 0x{last:08x}, 0x{short:08x}, 0x{text_sum(keys, 65594):08x}),")
+    for key_bytes, lasts in ((32, lasts), (16, [0xFFFFFFF8]), (24, [0xFFFFFFF8])):
+        print(f"# starts, under a key of {key_bytes} bytes")
+        for last in lasts:
+            start = COUNTED[:12] + last.to_bytes(4, "big")
+            keys = stream(cipher(COUNTED[:key_bytes]), start, 4100)
+            short = checksum(text_sum(keys, length) for length in range(301))
+            print(f"(0x{last:08x}, 0x{short:08x}, 0x{text_sum(keys, 65594):08x}),")
 
 
 def single_bit(size, bit):
@@ -52,6 +53,7 @@ def single_bit(size, bit):
 
 def single_bit_rows():
     """Length of the key, checksums of the blocks of one bit under the key of zeros, and of the block of zeros under the keys of one bit."""
+    print("# blocks and keys of one bit")
     for key_bytes in (16, 24, 32):
         under_zero = cipher(bytes(key_bytes))
         blocks = checksum(checksum(under_zero(single_bit(16, bit))) for bit in range(128))

@@ -1,5 +1,5 @@
 #!/usr/bin/env python3
-"""Derives the nibble tables of crates/aes_lanes in GF((2^4)^2), and checks them at all 256 bytes.
+"""Derives the nibble tables of crates/aes_lanes/src/tables.rt in GF((2^4)^2), and checks them at all 256 bytes.
 
 A byte of the AES field is k + i*s over GF(2^4), where s^2 + a*s + a = 0. With j = i + k,
     p = 1/(1/i + a/k) + j      1/p = (k + a*i)/n
@@ -138,6 +138,7 @@ for k in (9, 11, 13, 14):  # multiples of a byte, by its nibbles
     TABLES[f"TIMES_{k}_HIGH"] = [mul(k, n << 4) for n in range(16)]
 
 if __name__ == "__main__":
-    print(f"// g={G:#x} a={A:#x} s={S:#x}")
+    print(f"# g={G:#x} a={A:#x} s={S:#x}")
     for name, t in TABLES.items():
-        print(f"{name}: " + ", ".join(f"0x{x:02x}" for x in t))
+        print(f"# {name}")
+        print(f"const {name}: [u8; {len(t)}] = [" + ", ".join(f"0x{x:02x}" for x in t) + "];")

@@ -61,7 +61,7 @@ TO_APPROVED = [
     ("c501030000000000", "5c0103000200000000000000000000000000000000000000"),
     ("c50106000000000101", "5c0106020200000000000000000000000000000000000000"),
     ("c501020000000000", "5c0102000200000000000000000000000000000000000000"),
-    ("c501040000000000", "5c0104000200000003010000000000030000000000000000"),
+    ("c501040000000000", "5c0104000200000003010010000000030000000000000000"),
     ("c501020000000000", "5c0102000200000000000000000000000000000000000000"),
     ("c501020000000000", "5c0102000300000000000000000000000000000000000000"),
 ]
@@ -139,8 +139,8 @@ USE = [
     ("c50110000000000401616263", "5c0110000501000000000000000000000000000000000020" + ABC_DIGEST),
     # its MAC with SHA-256
     ("c50111000000001f030120" + QUESTION, "5c0111000500000000000000000000000000000000000020" + JEFE_MAC),
-    # two uses are counted, and the third makes tests due
-    ("c501040000000000", "5c0104000500000000000000000000030000000200000000"),
+    # the tests 1, 4 and 14 passed, two uses are counted, and the third makes tests due
+    ("c501040000000000", "5c0104000500000000004012000000030000000200000000"),
     ("c50112000000003f030120" + JEFE_MAC + QUESTION, "5c0112000200000000000000000000000000000000000000"),
     ("c50110000000000401616263", "5c0110020200000000000000000000000000000000000000"),
     ("c501020000000000", "5c0102000200000000000000000000000000000000000000"),
@@ -154,6 +154,36 @@ USE = [
     ("c501110000000003040120", "5c0111060200000000000000000000000000000000000000"),
     # Reset empties the slot
     ("c501070000000000", "5c0107000100000000000000000000000000000000000000"),
+]
+
+# Numbered commands from Off, with commands of version 1 between them.
+NUMBERED = [
+    # ShowStatus with the number that is expected first
+    ("c50204000000000000000001", "5c020400000000000000000000000000000000000000000000000001"),
+    # the same again: one too small
+    ("c50204000000000000000001", "5c020410000000000000000200000000000000000000000000000001"),
+    # one too large, and 0
+    ("c50204000000000000000003", "5c020410000000000000000200000000000000000000000000000003"),
+    ("c50204000000000000000000", "5c020410000000000000000200000000000000000000000000000000"),
+    # version 1 between them
+    ("c501040000000000", "5c0104000000000000000000000000000000000000000000"),
+    # out of order before an unknown service, a service that isn't permitted and a bad body
+    ("c5027e000000000000000003", "5c027e10000000000000000200000000000000000000000000000003"),
+    ("c50207000000000000000003", "5c020710000000000000000200000000000000000000000000000003"),
+    ("c50204000000000100000003ff", "5c020410000000000000000200000000000000000000000000000003"),
+    # in order these are refused for their own reasons, and their numbers are taken
+    ("c5027e000000000000000002", "5c027e01000000000000000000000000000000000000000000000002"),
+    ("c50207000000000000000003", "5c020702000000000000000000000000000000000000000000000003"),
+    ("c50204000000000100000004ff", "5c020403000000000000000000000000000000000000000000000004"),
+    # PowerOn, version 1 and version 2 by turns
+    ("c5020100000000040000000500000003", "5c020100010000000000000000000000000000000000000000000005"),
+    ("c501040000000000", "5c0104000100000000000000000000030000000000000000"),
+    ("c50204000000000000000006", "5c020400010000000000000000000003000000000000000000000006"),
+    # Reset leaves the expected number, and so does one of version 1
+    ("c50207000000000000000007", "5c020700010000000000000000000000000000000000000000000007"),
+    ("c501070000000000", "5c0107000100000000000000000000000000000000000000"),
+    ("c50204000000000000000001", "5c020410010000000000000800000000000000000000000000000001"),
+    ("c50204000000000000000008", "5c020400010000000000000000000003000000000000000000000008"),
 ]
 
 USAGE = b"usage: serve\n"
@@ -223,8 +253,9 @@ class Talk:
         """Sends a command, and expects its reply while standard input stays open."""
         self.send(command)
         header = self.receive(24)
+        number = self.receive(4) if header[1:2] == b"\x02" else b""
         payload = self.receive(int.from_bytes(header[20:], "big"))
-        expect(f"reply to {command}", header + payload, bytes.fromhex(reply))
+        expect(f"reply to {command}", header + number + payload, bytes.fromhex(reply))
 
     def close_output(self):
         self.ran.stdout.close()
@@ -318,6 +349,21 @@ def committing():
     answers(commands, replies)
 
 
+def numbered():
+    one_after_the_other(NUMBERED)
+    commands, replies = ("".join(parts) for parts in zip(*NUMBERED))
+    answers(commands, replies)
+    # each command in two pieces, cut at each byte
+    for at in range(2, 24, 2):
+        with Talk() as talk:
+            for command, reply in NUMBERED:
+                talk.send(command[:at])
+                time.sleep(0.001)
+                talk.send(command[at:])
+                expect(f"reply to {command}", talk.receive(len(reply) // 2), bytes.fromhex(reply))
+            talk.ends(0, b"")
+
+
 def longest_body():
     answers("c501040000010040" + "00" * 65_600 + SHOW_STATUS, "5c0104030000000000000000000000000000000000000000" + SHOWN_OFF)
 
@@ -329,7 +375,8 @@ def bad_frames():
         "c4",
         "ff",
         "c500",
-        "c502",
+        "c503",
+        "c5ff",
         "c5010101",
         "c5010480",
         "c501040000010041",  # a body of 65,601 bytes
@@ -354,6 +401,10 @@ def truncated_frames():
         answers(SHOW_STATUS * 2 + POWER_ON_3[:at], SHOWN_OFF * 2, 4, TRUNCATED)
     answers(COMMANDS + SHOW_STATUS[:-2], REPLIES, 4, TRUNCATED)
     answers("c501040000010040" + "00" * 65_599, "", 4, TRUNCATED)
+    command, reply = NUMBERED[0]
+    for at in range(2, len(command), 2):
+        answers(command[:at], "", 4, TRUNCATED)
+        answers(command + command[:at], reply, 4, TRUNCATED)
 
 
 def other_words():
@@ -408,7 +459,7 @@ def through_the_launcher():
             talk.ask(command, reply)
         talk.send("00")
         talk.ends_by_itself(3, BAD_FRAME)
-    for words in ([], ["serve", ""], ["demo", "demo"]):
+    for words in (["serve", ""], ["serve", "serve"]):
         with Talk(words, program=LAUNCHER) as talk:
             talk.ends_by_itself(2, USAGE)
 
@@ -423,6 +474,7 @@ CASES = [
     tests_and_roles,
     entering,
     committing,
+    numbered,
     longest_body,
     bad_frames,
     truncated_frames,

@@ -74,17 +74,17 @@ def main():
     for length in WHOLE:
         assert w(key_of(24), b"\xa6" * 8 + text_of(length)) == aes_key_wrap(key_of(24), text_of(length))
     assert sealed(key_of(16), padded(9, text_of(9) + bytes(7))) == aes_key_wrap_with_padding(key_of(16), text_of(9))
-    print("ROWS")
+    print("# ROWS")
     for key_length in (16, 24, 32):
         for length in WHOLE:
             row("false", str(key_length), str(length), wrapping=aes_key_wrap(key_of(key_length), text_of(length)))
     for n, length in enumerate(ANY):
         key_length = (16, 24, 32)[n % 3]
         row("true", str(key_length), str(length), wrapping=aes_key_wrap_with_padding(key_of(key_length), text_of(length)))
-    print("PADDED, under the key of 32 bytes")
+    print("# PADDED, under the key of 32 bytes")
     for name, right, s in PADDED:
         row(f'"{name}"', str(right).lower(), wrapping=sealed(key_of(32), s))
-    print("OTHER_CHECK_VALUES, under the key of 32 bytes")
+    print("# OTHER_CHECK_VALUES, under the key of 32 bytes")
     for value in ("a6a6a6a6a6a6a6a7", "26a6a6a6a6a6a6a6", "a6a6a6a600000000", "a65959a600000010"):
         row(f'"{value}"', wrapping=w(key_of(32), bytes.fromhex(value) + text_of(16)))
 

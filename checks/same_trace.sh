@@ -20,7 +20,9 @@ fi
 
 bytes=1000
 # Each with a key of 32 bytes and a text of $bytes bytes.
-works='absorb lanes seal open refuse'
+works='absorb lanes seal open refuse
+    wrap unwrap refuse_unwrap wrap_pad unwrap_pad refuse_unwrap_pad
+    mac derive generate'
 # It reads a table at places that the text gives, so the check must find it: else the check sees nothing.
 control=table
 

@@ -1,6 +1,6 @@
 -- What contracts see of a key schedule.
 use Rattle.std.specs.Prelude.{◌≡◌, ℕ, ◌+◌, ◌-◌, ◌*◌, List, ◌++◌, length, replicate, IsTrue}
-use Rattle.bits_core.specs.ByteList.{zeros}
+use Rattle.bits_core.specs.ByteList.{IsBytes, zeros}
 use Rattle.bits_core.specs.Parameters.{is_aes_length}
 use Rattle.aes_spec.specs.Key.{key_words, key_rounds, schedule_words}
 
@@ -22,7 +22,8 @@ abbrev pub expanded : List ℕ → KeySchedule
 expanded key =
     record { rounds = key_rounds key; words = schedule_words key ++ zero_words (60 - 4 * (key_words key + 7)) }
 
--- the schedule was expanded from this key
+-- the schedule was expanded from this key, a list of bytes
 pub record IsExpanded (schedule : KeySchedule) (key : List ℕ) : Type 0 where
   pub fits : IsTrue (is_aes_length (length key))
+  pub bytes : IsBytes key
   pub whole : schedule ≡ expanded key

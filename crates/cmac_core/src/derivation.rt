@@ -12,13 +12,14 @@ use crate::stream::{BLOCK, CmacStream};
 use aes_core::Schedule;
 use bits_core::wipe;
 
-/// A mode of key derivation (SP 800-108 Rev. 1, sections 4.1 to 4.3). The fixed input is the label, a
-/// zero byte, the context and the output's length in bits, as 32 bits; the counter has 32 bits too.
+/// A mode of key derivation (SP 800-108 Rev. 1, sections 4.1 to 4.3). Of what the standard leaves open this
+/// project has chosen: the fixed input is the label, a zero byte, the context and the output's length in
+/// bits, as 32 bits; the counter has 32 bits too; K(0) is empty.
 #[derive(Clone, Copy)]
 pub enum Mode {
     /// K(i) is the CMAC of the counter and the fixed input.
     Counter,
-    /// K(i-1) stands before the counter; K(0) is empty.
+    /// K(i-1) stands before the counter.
     Feedback,
     /// A(i) stands before the counter: A(0) is the fixed input, A(i) the CMAC of A(i-1).
     Pipeline,
@@ -46,8 +47,8 @@ impl FixedInput<'_> {
     }
 }
 
-/// Fills `out`, of 1 to 65,536 bytes, with key material under the key that was expanded (SP 800-108
-/// Rev. 1, section 4). The label and the context have any length.
+/// Fills `out` with key material under the key that was expanded (SP 800-108 Rev. 1, section 4). The label
+/// and the context have any length. `out` has 1 to 65,536 bytes, a limit of this project's own.
 pub fn kdf(schedule: &Schedule, mode: Mode, label: &[u8], context: &[u8], out: &mut [u8])
     requires expanded { 0 < schedule.now.rounds }
     requires some { 1 ≤ length out.old }

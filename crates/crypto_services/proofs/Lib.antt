@@ -1,1 +1,2 @@
 pub mod Sourcing
+pub mod ZeroWork

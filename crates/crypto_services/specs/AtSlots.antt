@@ -23,7 +23,7 @@ pub record Answer : Type 0 where
   pub payload : List ℕ
 
 abbrev pub refusal : Status → Answer
-refusal why = record { status = why; payload = [] }
+refusal reason = record { status = reason; payload = [] }
 
 abbrev pub success : List ℕ → Answer
 success payload = record { status = status.Ok; payload = payload }
@@ -61,12 +61,12 @@ on_slot slots id service =
 
 -- nothing is done at the slot for this reason
 abbrev pub refused_at : {V : Type 0} → V → Slot → Status → SlotResult V
-refused_at engine slot why = record { engine = engine; slot = slot; answer = refusal why }
+refused_at engine slot reason = record { engine = engine; slot = slot; answer = refusal reason }
 
 -- refused where there is a fault of the slot, and else served
 abbrev pub unless_fault : {V : Type 0} → V → Slot → Option SlotFault → SlotResult V → SlotResult V
 unless_fault engine slot None served = served
-unless_fault engine slot (Some why) served = refused_at engine slot (fault_status why)
+unless_fault engine slot (Some reason) served = refused_at engine slot (fault_status reason)
 
 -- A slot as the source of a key: the slot after it, the key, and the reason where it is refused.
 pub record Source : Type 0 where
@@ -76,7 +76,7 @@ pub record Source : Type 0 where
 
 abbrev pub source_by : Slot → Option SlotFault → Source
 source_by slot None = record { slot = spent_slot slot; key = parameter slot; refused = None }
-source_by slot (Some why) = record { slot = slot; key = []; refused = Some (fault_status why) }
+source_by slot (Some reason) = record { slot = slot; key = []; refused = Some (fault_status reason) }
 
 -- one use is spent, and the key goes on; a refusal spends none
 abbrev pub source : Kind → Bool → Slot → Source
@@ -85,7 +85,7 @@ source kind approved slot = source_by slot (source_fault slot.header kind approv
 -- a service under the key of a source: the engine after it and its answer, by the key
 abbrev pub under_key : {V : Type 0} → V → Slot → List ℕ → Option Status → (List ℕ → V) → (List ℕ → Answer) → SlotResult V
 under_key engine slot key None after answer = record { engine = after key; slot = slot; answer = answer key }
-under_key engine slot key (Some why) after answer = refused_at engine slot why
+under_key engine slot key (Some reason) after answer = refused_at engine slot reason
 
 abbrev pub on_source : {V : Type 0} → V → Source → (List ℕ → V) → (List ℕ → Answer) → SlotResult V
 on_source engine source after answer = under_key engine source.slot source.key source.refused after answer
@@ -93,7 +93,7 @@ on_source engine source after answer = under_key engine source.slot source.key s
 -- A service on a source and a second slot, which is looked at after a use of the source was spent.
 abbrev pub second_under : {V : Type 0} → V → List Slot → ℕ → List ℕ → Option Status → (List ℕ → Slot → SlotResult V) → SlotsResult V
 second_under engine slots second key None service = on_slot slots second (service key)
-second_under engine slots second key (Some why) service = on_no_slot engine slots (refusal why)
+second_under engine slots second key (Some reason) service = on_no_slot engine slots (refusal reason)
 
 abbrev pub on_two_slots : {V : Type 0} → V → List Slot → ℕ → ℕ → (Slot → Source) → (List ℕ → Slot → SlotResult V) → SlotsResult V
 on_two_slots engine slots first second sourced service =

@@ -1,4 +1,4 @@
--- The indicator of approved services (ISO/IEC 19790:2012, 7.2.4.2).
+-- The indicator of approved services. ISO/IEC 19790:2012, 7.2.4.2, asks for one; its rule, by the named slots, is this project's own.
 use Rattle.std.specs.Prelude.{ℕ, ◌==◌, ◌&&◌, Bool, false, List}
 use Rattle.std.specs.List.{list_all}
 use Rattle.std.specs.Option.{option_map_or}
@@ -23,8 +23,8 @@ abbrev pub is_in_approved : Slot → Bool
 is_in_approved slot = option_map_or (λ header. is_domain header.domain Approved) slot.header false
 
 abbrev pub is_ok : Status → Bool
-is_ok why = status_number why == status_number status.Ok
+is_ok outcome = status_number outcome == status_number status.Ok
 
 -- It was done, it is an approved use, and each slot that the command names holds a parameter of the approved domain after it.
 abbrev pub indicator : ServiceUse → Status → List Slot → Bool
-indicator use' why slots = is_ok why && (is_approved use'.service use'.mac_length && list_all (λ id. is_in_approved (slot_at slots id)) use'.named)
+indicator use' outcome slots = is_ok outcome && (is_approved use'.service use'.mac_length && list_all (λ id. is_in_approved (slot_at slots id)) use'.named)

@@ -9,6 +9,7 @@ use Rattle.crypto_services.specs.Indicator.{ServiceUse, indicator}
 pub record Leaves {V : Type 0} (result : SlotsResult V) (old new : Parts V) : Type 0 where
   pub engine : new.engine ≡ result.engine
   pub vault : new.vault ≡ record old.vault { slots = result.slots }
+  pub generator : new.drbg ≡ old.drbg
   pub health : new.health ≡ old.health
 
 -- the outcome of a service that nothing failed in

@@ -1,5 +1,6 @@
 // Digests.
 ghost use Rattle.std.specs.Prelude.{◌≡◌, ◌≤◌, []};
+ghost use Rattle.bits_core.specs.declared.limits.TheConstants.{LARGEST_PAYLOAD};
 ghost use Rattle.ssp_slots.specs.Slots.{AreWellFormed};
 ghost use Rattle.service_table.specs.declared.service.Service.TheVariants as service;
 ghost use Rattle.crypto_services.specs.Services.{hash_result};
@@ -20,7 +21,7 @@ pub fn hash<E: Engine>(
     port: &mut Port<'_, Enabled>,
 ) -> Outcome
     requires empty { port.old.outbox.now.bytes ≡ [] }
-    requires room { 65664 ≤ port.old.outbox.now.room }
+    requires room { LARGEST_PAYLOAD ≤ port.old.outbox.now.room }
     ensures serves { Serves (record { service = service.Hash; mac_length = 0; named = [] })
         (hash_result E.calls parts.old.engine alg text.now parts.old.vault.slots) parts.old parts.new result port.new.outbox.now.bytes }
     ensures same { port.new.outbox.ghost_name ≡ port.old.outbox.ghost_name }

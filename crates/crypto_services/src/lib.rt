@@ -1,9 +1,10 @@
-//! The cryptographic services: digests and MACs by an engine, under keys of the vault.
+//! The cryptographic services: digests and MACs by an engine, under keys of the vault; and noise for the module.
 #![tactic(auto)]
 
 mod digests;
 mod leftmost;
 mod macs;
+mod noise;
 mod outcome;
 mod parts;
 mod tags;
@@ -13,6 +14,7 @@ mod work;
 
 pub use digests::hash;
 pub use macs::mac;
+pub use noise::{sample, seed};
 pub use outcome::{Outcome, status_of};
 pub use parts::Parts;
 pub use tags::mac_verify;

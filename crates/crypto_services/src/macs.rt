@@ -1,6 +1,7 @@
 // MACs under the keys of the vault.
 ghost use Rattle.std.specs.Prelude.{◌≡◌, ◌≤◌, ◌∷◌, []};
 ghost use Rattle.bits_core.specs.Algorithms.{alg_size};
+ghost use Rattle.bits_core.specs.declared.limits.TheConstants.{LARGEST_PAYLOAD};
 ghost use Rattle.ssp_slots.specs.Slots.{AreWellFormed};
 ghost use Rattle.service_table.specs.declared.service.Service.TheVariants as service;
 ghost use Rattle.crypto_services.specs.AtSlots.{on_slot};
@@ -28,7 +29,7 @@ pub fn mac<E: Engine>(
     requires least { 1 ≤ mac_length }
     requires most { mac_length ≤ alg_size alg }
     requires empty { port.old.outbox.now.bytes ≡ [] }
-    requires room { 65664 ≤ port.old.outbox.now.room }
+    requires room { LARGEST_PAYLOAD ≤ port.old.outbox.now.room }
     ensures serves { Serves (record { service = service.Mac; mac_length = mac_length; named = slot ∷ [] })
         (on_slot parts.old.vault.slots slot (mac_at E.calls parts.old.engine alg mac_length text.now)) parts.old parts.new result port.new.outbox.now.bytes }
     ensures same { port.new.outbox.ghost_name ≡ port.old.outbox.ghost_name }
@@ -37,8 +38,8 @@ pub fn mac<E: Engine>(
 {
     let is_approved = approved(Service::Mac, mac_length);
     if let Err(fault) = parts.vault.source(slot, Kind::Mac, is_approved) {
-        let why = status_of(fault);
-        return with_indicator(Service::Mac, mac_length, &[slot], why, &parts.vault);
+        let status = status_of(fault);
+        return with_indicator(Service::Mac, mac_length, &[slot], status, &parts.vault);
     }
     let mut out = [0; 64];
     let key = parts.vault.bytes(slot);

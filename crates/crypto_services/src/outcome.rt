@@ -14,7 +14,8 @@ pub struct Outcome {
     pub status: Status,
     /// What failed, where something did; 0 else.
     pub code: u16,
-    /// The indicator of approved services (ISO/IEC 19790:2012, 7.2.4.2).
+    /// Whether it was an approved use. That a service tells so is asked for by ISO/IEC 19790:2012, 7.2.4.2; the rule, by the named slots,
+    /// is this project's own.
     pub approved: bool,
 }
 

@@ -35,8 +35,8 @@ pub fn mac_verify<E: Engine>(
 {
     let is_approved = approved(Service::MacVerify, tag.len());
     if let Err(fault) = parts.vault.source(slot, Kind::Mac, is_approved) {
-        let why = status_of(fault);
-        return with_indicator(Service::MacVerify, tag.len(), &[slot], why, &parts.vault);
+        let status = status_of(fault);
+        return with_indicator(Service::MacVerify, tag.len(), &[slot], status, &parts.vault);
     }
     let mut out = [0; 64];
     let key = parts.vault.bytes(slot);

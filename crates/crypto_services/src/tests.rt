@@ -1,8 +1,11 @@
 //! Values of FIPS 180-4, RFC 4231 and Python's hmac.
 ghost use Rattle.std.specs.Prelude.{◌≡◌, ◌<◌, ◌≤◌, length};
+ghost use Rattle.bits_core.specs.declared.limits.TheConstants.{LARGEST_PAYLOAD};
 
 use crate::{Outcome, Parts, hash, mac, mac_verify};
-use bits_core::{Alg, Domain, Enabled, Header, Inhibited, Kind, Outbox, Port, SlotId};
+use bits_core::{
+    Alg, Domain, Enabled, Header, Inhibited, Kind, LARGEST_PAYLOAD, Outbox, Port, SlotId,
+};
 use engine_core::{Engine, Faulty, Shipped};
 use service_table::Status;
 use std::process::Abort;
@@ -55,7 +58,7 @@ fn outcome(status: Status, approved: bool) -> Outcome {
 
 // The digest of `abc` under SHA-256, in `outbox`.
 fn hash_in<E: Engine>(parts: &mut Parts<E>, outbox: &mut Outbox) -> Outcome
-    requires { 65664 ≤ outbox.old.room }
+    requires { LARGEST_PAYLOAD ≤ outbox.old.room }
     ensures { outbox.new.room ≡ outbox.old.room }
 {
     let mut port = Port::<Enabled>::over(outbox);
@@ -71,7 +74,7 @@ fn mac_in<E: Engine>(
 ) -> Outcome
     requires least { 1 ≤ mac_length }
     requires most { mac_length ≤ 32 }
-    requires room { 65664 ≤ outbox.old.room }
+    requires room { LARGEST_PAYLOAD ≤ outbox.old.room }
     ensures { outbox.new.room ≡ outbox.old.room }
 {
     let mut port = Port::<Enabled>::over(outbox);
@@ -136,7 +139,7 @@ fn expect_uses<E: Engine>(rt: &impl Abort, parts: &Parts<E>, slot: SlotId, want:
 #[test]
 fn published_values_come_out(rt: HostRuntime) -> Result<(), Fail> {
     let mut parts = Parts::new(rt.alloc(), Shipped::new())?;
-    let mut outbox = Outbox::new(rt.alloc(), 65_664)?;
+    let mut outbox = Outbox::new(rt.alloc(), LARGEST_PAYLOAD)?;
     let slot = slot_at(3);
     let answer = hash_in(&mut parts, &mut outbox);
     assert_eq!(rt; answer, outcome(Status::Ok, true));
@@ -152,7 +155,7 @@ fn published_values_come_out(rt: HostRuntime) -> Result<(), Fail> {
 #[test]
 fn refusals_come_in_their_order(rt: HostRuntime) -> Result<(), Fail> {
     let mut parts = Parts::new(rt.alloc(), Shipped::new())?;
-    let mut outbox = Outbox::new(rt.alloc(), 65_664)?;
+    let mut outbox = Outbox::new(rt.alloc(), LARGEST_PAYLOAD)?;
     let aes = slot_at(1);
     let slot = slot_at(2);
     let header = Header {
@@ -217,7 +220,7 @@ fn tags_are_checked(rt: HostRuntime) -> Result<(), Fail> {
 #[test]
 fn a_fault_of_the_engine_shows(rt: HostRuntime) -> Result<(), Fail> {
     let mut parts = Parts::new(rt.alloc(), Faulty::new(1, 0, 0))?;
-    let mut outbox = Outbox::new(rt.alloc(), 65_664)?;
+    let mut outbox = Outbox::new(rt.alloc(), LARGEST_PAYLOAD)?;
     let slot = slot_at(3);
     let header = mac_header(Domain::Other, 2);
     assert_eq!(rt; parts.vault.put(slot, &header, b"Jefe"), Ok(()));

@@ -1,14 +1,23 @@
 // Bytes to work in beside the slots.
-ghost use Rattle.std.specs.Prelude.{◌≡◌, IfOk};
+ghost use Rattle.std.specs.Prelude.{◌≡◌, ℕ, List, IfOk, OnOk, MatchResult};
+ghost use Rattle.bits_core.specs.declared.limits.TheConstants.{LARGEST_PAYLOAD};
 ghost use Rattle.bits_core.specs.ByteList.{zeros};
+ghost use Rattle.noise_health.specs.Counts.{Counts};
+ghost use Rattle.outside.specs.Explained.{Explained};
+ghost use Rattle.outside.specs.Faults.{FaultCounted};
+ghost use Rattle.random_bits.specs.Draws.{IsDrawn, instantiated};
 
+use bits_core::LARGEST_PAYLOAD;
+use drbg_core::Drbg;
+use engine_core::Engine;
+use noise_health::Health;
+use outside::Noise;
+use random_bits::{SEED_SAMPLES, instantiate};
+use service_table::Failure;
 use std::alloc::{AllocError, Global};
 use std::marker::Model;
 
-/// How many bytes a service may work on: as many as a reply's payload has at most.
-const WORK: usize = 65_664;
-
-/// Bytes to work in. By a rule of the type all 65,664 are zero before and after each call: no service leaves one.
+/// Bytes to work in, as many as a reply's payload has at most. By a rule of the type all 65,664 are zero before and after each call: no service leaves one.
 #[derive(Drop)]
 pub struct Work {
     bytes: Vec<u8>,
@@ -16,29 +25,68 @@ pub struct Work {
 
 impl Model for Work {
     ghost use Rattle.std.specs.Prelude.{◌≡◌, ℕ, List};
+    ghost use Rattle.bits_core.specs.declared.limits.TheConstants.{LARGEST_PAYLOAD};
     ghost use Rattle.bits_core.specs.ByteList.{zeros};
 
     ghost Value = { List ℕ };
 
     ghost view = { λ a. a.bytes.items };
 
-    ghost invariant = { λ a. a.bytes.items ≡ zeros 65664 };
+    ghost invariant = { λ a. a.bytes.items ≡ zeros LARGEST_PAYLOAD };
 }
 
 impl Work {
     /// All zero.
     pub fn new(alloc: Global) -> Result<Work, AllocError>
-        ensures { IfOk result (λ work. work ≡ zeros 65664) }
+        ensures { IfOk result (λ work. work ≡ zeros LARGEST_PAYLOAD) }
     {
-        let bytes = vec![in alloc; 0; WORK]?;
+        let bytes = vec![in alloc; 0; LARGEST_PAYLOAD]?;
         Ok(Work { bytes })
     }
 
     /// How many there are.
     pub fn room(&self) -> usize
-        ensures room { result ≡ 65664 }
-        ensures zero { self.now ≡ zeros 65664 }
+        ensures room { result ≡ LARGEST_PAYLOAD }
+        ensures zero { self.now ≡ zeros LARGEST_PAYLOAD }
     {
         self.bytes.len()
     }
+
+    // Seeds a generator anew, with the samples of its seed in these bytes.
+    pub(crate) fn seed<E: Engine, N: Noise>(
+        &mut self,
+        engine: &mut E,
+        drbg: &mut Drbg,
+        health: &mut Health,
+        noise: &mut N,
+    ) -> Result<(), Failure>
+        requires counts { (samples : List ℕ) × Counts health.old samples }
+        ensures seeded { (samples : List ℕ) → Counts health.old samples → Explained (N.left noise.old) (N.left noise.new)
+            (λ events left. IsDrawn (instantiated E.calls engine.old drbg.old samples events) engine.new drbg.new health.new result left) }
+        ensures counter { OnOk result (drbg.new.counter ≡ 1) }
+        ensures fault_counted { MatchResult result (λ _. N.faults noise.new ≡ N.faults noise.old)
+            (λ why. why ≡ Failure.NoiseFailed → FaultCounted (N.faults noise.old) (N.faults noise.new)) }
+    {
+        seed_in(&mut self.bytes, engine, drbg, health, noise)
+    }
+}
+
+// Seeds a generator anew, with the samples of its seed in the front of these bytes.
+fn seed_in<E: Engine, N: Noise>(
+    work: &mut [u8],
+    engine: &mut E,
+    drbg: &mut Drbg,
+    health: &mut Health,
+    noise: &mut N,
+) -> Result<(), Failure>
+    requires zero { work.old ≡ zeros LARGEST_PAYLOAD }
+    requires counts { (samples : List ℕ) × Counts health.old samples }
+    ensures zero { work.new ≡ zeros LARGEST_PAYLOAD }
+    ensures seeded { (samples : List ℕ) → Counts health.old samples → Explained (N.left noise.old) (N.left noise.new)
+        (λ events left. IsDrawn (instantiated E.calls engine.old drbg.old samples events) engine.new drbg.new health.new result left) }
+    ensures counter { OnOk result (drbg.new.counter ≡ 1) }
+    ensures fault_counted { MatchResult result (λ _. N.faults noise.new ≡ N.faults noise.old)
+        (λ why. why ≡ Failure.NoiseFailed → FaultCounted (N.faults noise.old) (N.faults noise.new)) }
+{
+    instantiate(engine, drbg, health, noise, &mut work[..SEED_SAMPLES])
 }

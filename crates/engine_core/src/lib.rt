@@ -5,6 +5,7 @@ mod engine;
 mod faulty;
 mod laws;
 mod shipped;
+mod standard;
 #[cfg(test)]
 mod tests;
 

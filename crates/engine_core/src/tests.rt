@@ -1,7 +1,8 @@
 //! Values of FIPS 180-4 and RFC 4231.
+mod keyed;
 mod rows;
 
-ghost use Rattle.std.specs.Prelude.{◌≤◌};
+ghost use Rattle.std.specs.Prelude.{◌≤◌, ◌<◌};
 
 use crate::{Engine, Faulty, Shipped};
 use bits_core::Alg;
@@ -44,7 +45,9 @@ fn expect_standard<E: Engine>(rt: &impl Abort, engine: &mut E) {
 }
 
 // A value with bits of its first byte turned.
-fn turned(right: &[u8; 64], mask: u8) -> [u8; 64] {
+fn turned<const N: usize>(right: &[u8; N], mask: u8) -> [u8; N]
+    requires { 0 < N }
+{
     let mut value = *right;
     value[0] ^= mask;
     value

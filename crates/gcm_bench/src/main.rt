@@ -5,6 +5,7 @@
 mod work;
 
 use anyhow::{Context, Result, ensure};
+use bits_core::LARGEST_PAYLOAD;
 use std::env;
 use work::Call;
 
@@ -19,7 +20,7 @@ fn main(rt: HostRuntime) -> Result<()> {
         .as_str()
         .parse::<usize>()?;
     let count = words.next().context("a count")?.as_str().parse::<u32>()?;
-    ensure!(length <= work::LIMIT, "at most 65664 bytes");
+    ensure!(length <= LARGEST_PAYLOAD, "at most {LARGEST_PAYLOAD} bytes");
     let mut text = work::text(rt.alloc(), length)?;
     let mut work = work::text(rt.alloc(), length)?;
     let sum = u128::from_be_bytes(work::repeated(call, &mut text, &mut work, count));

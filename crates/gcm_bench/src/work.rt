@@ -1,12 +1,10 @@
 //! What is measured.
 ghost use Rattle.std.specs.Prelude.{◌≡◌, ◌≤◌, length, vec_len, IfOk};
+ghost use Rattle.bits_core.specs.declared.limits.TheConstants.{LARGEST_PAYLOAD};
 ghost use Rattle.gcm_mode.specs.Filled.{IsReady};
 
 use gcm_mode::{Prepared, open, seal};
 use std::alloc::{AllocError, Global};
-
-/// The longest text that can be sealed.
-pub const LIMIT: usize = 65664;
 
 /// The additional data: as many bytes as TLS has, and as OpenSSL measures with.
 const HEADER: [u8; 13] = [0; 13];
@@ -43,7 +41,7 @@ pub fn text(alloc: Global, length: usize) -> Result<Vec<u8>, AllocError>
 /// The tag after sealing `count` times, each time what the one before left.
 fn resealed(prepared: &Prepared, text: &mut [u8], count: u32) -> [u8; 16]
     requires ready { IsReady prepared.now }
-    requires text { length text.old ≤ LIMIT }
+    requires text { length text.old ≤ LARGEST_PAYLOAD }
 {
     let mut tag = [0u8; 16];
     for _ in 0..count {
@@ -55,7 +53,7 @@ fn resealed(prepared: &Prepared, text: &mut [u8], count: u32) -> [u8; 16]
 /// The tag of the text, where its ciphertext was copied and opened `count` times.
 fn reopened(prepared: &Prepared, text: &mut [u8], work: &mut [u8], count: u32) -> [u8; 16]
     requires ready { IsReady prepared.now }
-    requires text { length text.old ≤ LIMIT }
+    requires text { length text.old ≤ LARGEST_PAYLOAD }
     requires work { length work.old ≡ length text.old }
 {
     let mut tag = [0u8; 16];
@@ -71,7 +69,7 @@ fn reopened(prepared: &Prepared, text: &mut [u8], work: &mut [u8], count: u32) -
 /// The last tag of `count` calls, under a key of 32 zero bytes; zero where an opening was refused. `work` is as long as
 /// `text`.
 pub fn repeated(call: Call, text: &mut [u8], work: &mut [u8], count: u32) -> [u8; 16]
-    requires text { length text.old ≤ LIMIT }
+    requires text { length text.old ≤ LARGEST_PAYLOAD }
     requires work { length work.old ≡ length text.old }
 {
     let mut prepared = Prepared::empty();

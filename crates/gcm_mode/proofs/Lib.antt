@@ -1,3 +1,4 @@
 pub mod Running
 pub mod Counter
 pub mod OneKey
+pub mod Readiness

@@ -2,6 +2,7 @@
 use Rattle.std.specs.Prelude.{ℕ, ◌*◌, ◌≤◌, ◌==◌, List, [], ◌∷◌, ◌++◌, length, if◌then◌else◌}
 use Rattle.std.specs.Int.{w64, to_be_bytes}
 use Rattle.bits_core.specs.ByteList.{zeros}
+use Rattle.bits_core.specs.declared.limits.TheConstants.{LARGEST_PAYLOAD}
 use Rattle.aes_core.specs.Key.{aes}
 use Rattle.aes_core.specs.Gctr.{gctr, inc32}
 use Rattle.ghash_core.specs.Block.{block_of, blocks_of, bytes_of, ghash}
@@ -54,14 +55,14 @@ gcm_encrypt key iv aad text =
 unfoldable pub gcm_text : List ℕ → List ℕ → List ℕ → List ℕ
 gcm_text key iv ciphertext = gctr (aes key) (text_counter key iv) ciphertext
 
--- an IV that the module takes: 1 to 255 bytes
+-- an IV that the module takes: 1 to 255 bytes, a rule of this project's own
 abbrev pub IsIv : List ℕ → Type 0
 IsIv iv = (1 ≤ length iv) × (length iv ≤ 255)
 
--- additional data or text that the module takes: at most 65,664 bytes
+-- additional data or text that the module takes: no more than a reply's payload has, a rule of this project's own
 abbrev pub IsSealable : List ℕ → Type 0
-IsSealable bytes = length bytes ≤ 65664
+IsSealable bytes = length bytes ≤ LARGEST_PAYLOAD
 
--- a tag's length: 12 to 16 bytes
+-- a tag's length: 12 to 16 bytes (5.2.1.2); the two shorter ones, for some uses alone, aren't taken
 abbrev pub IsTagLength : ℕ → Type 0
 IsTagLength n = (12 ≤ n) × (n ≤ 16)

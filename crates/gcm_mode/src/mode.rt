@@ -12,7 +12,7 @@ use bits_core::{same, wipe};
 /// Encrypts `text` in place and writes the full tag over it and `aad` (SP 800-38D, section 7.1).
 ///
 /// `prepared` was filled. The IV has 1 to 255 bytes; `aad` and `text` have at most 65,664 bytes each, and either may be
-/// empty.
+/// empty: limits of this project's own.
 pub fn seal(prepared: &Prepared, iv: &[u8], aad: &[u8], text: &mut [u8], tag: &mut [u8; 16])
     requires ready { IsReady prepared.now }
     requires iv { IsIv iv.now }
@@ -31,8 +31,8 @@ pub fn seal(prepared: &Prepared, iv: &[u8], aad: &[u8], text: &mut [u8], tag: &m
 /// Opens the ciphertext `text` in place, where `tag` is the leftmost part of its tag (SP 800-38D, section 7.2).
 ///
 /// The tag is compared before any plaintext is written, and each of its bytes is looked at whatever the earlier ones
-/// were. Where it differs the answer is false and `text` is all zero. The lengths are those of `seal`; the tag has 12
-/// to 16 bytes.
+/// were. Where it differs the answer is false and `text` is all zero: rules of this project's own. The lengths are those
+/// of `seal`; the tag has 12 to 16 bytes (section 5.2.1.2).
 pub fn open(prepared: &Prepared, iv: &[u8], aad: &[u8], text: &mut [u8], tag: &[u8]) -> bool
     requires ready { IsReady prepared.now }
     requires iv { IsIv iv.now }

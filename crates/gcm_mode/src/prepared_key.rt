@@ -1,6 +1,7 @@
 //! What is kept of a key.
 ghost use Rattle.std.specs.Prelude.{◌≡◌, ℕ, List, IsTrue, length};
 ghost use Rattle.bits_core.specs.Parameters.{is_aes_length};
+ghost use Rattle.aes_core.specs.Schedules.{IsExpanded};
 ghost use Rattle.gcm_mode.specs.Filled.{IsFilled, IsReady, IsWiped};
 
 use aes_core::Schedule;
@@ -38,6 +39,14 @@ impl Prepared {
         wipe(&mut subkey);
     }
 
+    /// Its AES schedule, for the calls that need no hash subkey.
+    pub fn schedule(&self) -> &Schedule
+        ensures same { result.now ≡ self.now.schedule }
+        ensures expanded { (key : List ℕ) → IsFilled self.now key → IsExpanded result.now key }
+    {
+        &self.schedule
+    }
+
     /// Makes all of it zero.
     pub fn wipe(&mut self)
         ensures { IsWiped self.new }
@@ -49,5 +58,10 @@ impl Prepared {
     /// It was filled from one key at most. The call does nothing.
     pub fn of_one_key(&self)
         ensures { (key other : List ℕ) → IsFilled self.now key → IsFilled self.now other → key ≡ other }
+    {}
+
+    /// It can be used once a key filled it. The call does nothing.
+    pub fn filled_is_ready(&self)
+        ensures { (key : List ℕ) → IsFilled self.now key → IsReady self.now }
     {}
 }

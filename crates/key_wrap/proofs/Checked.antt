@@ -14,7 +14,7 @@ use Rattle.key_wrap.proofs.Padding.{padded-is, bytes-padded, kwp-padded_cipher, 
 abbrev pub checked : List ℕ → List ℕ
 checked p = replicate 8 0xa6 ++ p
 
-bytes-check : IsBytes (replicate 8 0xa6)
+pub bytes-check : IsBytes (replicate 8 0xa6)
 bytes-check zero = omega arith
 bytes-check (suc zero) = omega arith
 bytes-check (suc (suc zero)) = omega arith

@@ -13,7 +13,7 @@ pub aes-long : (key b : List ℕ) → length (aes key b) ≡ 16
 unfolding cipher
 aes-long key b = refl
 
-aes-state : (key b : List ℕ) → IsBytes key → IsState b → IsState (aes key b)
+pub aes-state : (key b : List ℕ) → IsBytes key → IsState b → IsState (aes key b)
 unfolding cipher
 aes-state key b hk hb =
     let w : ℕ → List ℕ = round_key key in

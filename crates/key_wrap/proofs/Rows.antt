@@ -6,15 +6,15 @@ use Rattle.std.proofs.lemmas.List.{length-take-le, length-drop, drop-drop, drop-
 use Rattle.bits_core.specs.ByteList.{xor_bytes}
 use Rattle.key_wrap.specs.Wrapping.{Registers, semiblock, next_registers, registers, row}
 use Rattle.key_wrap.proofs.Undone.{sum-half, drop-half}
-use Rattle.key_wrap.proofs.Turning.{forward, forward_parts}
+use Rattle.key_wrap.proofs.RegisterOrder.{forward, forward_parts}
 
 abbrev pub in_row : Registers → ℕ → List ℕ
 in_row now m = now.a ++ row now.r m
 
-at_last : (i n : ℕ) (x y : List ℕ) → i ≡ n → cond (i == n) x y ≡ x
+pub at_last : (i n : ℕ) (x y : List ℕ) → i ≡ n → cond (i == n) x y ≡ x
 at_last i n x y e = ap (λ (b : Bool). cond b x y) (eq-eqb i n e)
 
-before_last : (i n : ℕ) (x y : List ℕ) → (i ≡ n → ⊥) → cond (i == n) x y ≡ y
+pub before_last : (i n : ℕ) (x y : List ℕ) → (i ≡ n → ⊥) → cond (i == n) x y ≡ y
 before_last i n x y ne = ap (λ (b : Bool). cond b x y) (ne_eqb i n ne)
 
 row_same : (r s : ℕ → List ℕ) (k : ℕ) → ((i : ℕ) → i < k + 2 → r i ≡ s i) → row r k ≡ row s k

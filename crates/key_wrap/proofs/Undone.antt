@@ -7,8 +7,8 @@ use Rattle.bits_core.proofs.XorBytes.{length-xor_bytes}
 use Rattle.aes_core.specs.Aes.{IsState}
 use Rattle.key_wrap.specs.InPlace.{laid, block_at, stepped, steps}
 use Rattle.bits_core.proofs.Bytes.{IsBytes-take, IsBytes-drop}
-use Rattle.key_wrap.proofs.Bytes.{bytes-xor, bytes-number, xor_twice, two_semiblocks}
-use Rattle.key_wrap.proofs.Laid.{Fits, length-laid, take-laid, take_register-laid, laid-laid, laid-self, bytes-laid}
+use Rattle.key_wrap.proofs.BlockBytes.{bytes-xor, bytes-number, xor_twice, two_semiblocks}
+use Rattle.key_wrap.proofs.RegisterWrites.{Fits, length-laid, take-laid, take_register-laid, laid-laid, laid-self, bytes-laid}
 
 -- a map of blocks of bytes, and one that undoes it
 pub record Inverses (enciphered deciphered : List ℕ → List ℕ) : Type 0 where
@@ -149,7 +149,7 @@ register_of x m h t = record { bytes = h.bytes; within = omega (arith, h.within,
 kept : (x y : List ℕ) (m : ℕ) → HasRegisters x m → IsBytes y × (length y ≡ length x) → HasRegisters y m
 kept x y m h k = record { bytes = k.0; some = h.some; within = omega (arith, h.within, k.1) }
 
-steps-keep : (enciphered deciphered : List ℕ → List ℕ) → Inverses enciphered deciphered → (m t : ℕ) (x : List ℕ) → HasRegisters x m → HasRegisters (steps enciphered m t x) m
+pub steps-keep : (enciphered deciphered : List ℕ → List ℕ) → Inverses enciphered deciphered → (m t : ℕ) (x : List ℕ) → HasRegisters x m → HasRegisters (steps enciphered m t x) m
 unfolding steps
 steps-keep enciphered deciphered inv m zero x h = h
 steps-keep enciphered deciphered inv m (suc t) x h =
@@ -166,3 +166,35 @@ unsteps-steps enciphered deciphered inv m (suc t) x h =
     let hy : HasRegisters y m = steps-keep enciphered deciphered inv m t x h in
     ap (unsteps deciphered m t) (unstepped-stepped enciphered deciphered inv (t + 1) (t % m) y (register_of y m hy t))
     ∙ unsteps-steps enciphered deciphered inv m t x h
+
+-- the other way round: each step after its inverse gives the list again
+unstepped-keeps : (enciphered deciphered : List ℕ → List ℕ) → Inverses deciphered enciphered → (t i : ℕ) (x : List ℕ) → HasRegister x i
+    → (stepped enciphered t i (unstepped deciphered t i x) ≡ x) × (IsBytes (unstepped deciphered t i x) × (length (unstepped deciphered t i x) ≡ length x))
+unfolding unstepped
+unstepped-keeps enciphered deciphered inv t i x h =
+    let n : List ℕ = to_be_bytes w64 t in
+    let fore : List ℕ = take 8 x in
+    let r : List ℕ = take 8 (drop (8 * i + 8) x) in
+    let fore_long : length fore ≡ 8 = front-long x i h in
+    let given : List ℕ = xor_bytes fore n ++ r in
+    let state : IsState given =
+    two_semiblocks (xor_bytes fore n) r (length-xor_bytes fore n (sym fore_long) ∙ fore_long) (register-long x i h)
+    (bytes-xor fore n (sym fore_long) (IsBytes-take 8 x h.bytes) (bytes-number t)) (IsBytes-take 8 (drop (8 * i + 8) x) (IsBytes-drop (8 * i + 8) x h.bytes)) in
+    let b : List ℕ = deciphered given in
+    let opened : IsState b = inv.states given state in (
+      stepped_again enciphered t i x b h.within opened.long (inv.undone given state),
+      (
+        bytes-laid (take 8 b) i (drop 8 b) x (IsBytes-take 8 b opened.small) (IsBytes-drop 8 b opened.small) h.bytes,
+        length-laid (take 8 b) i (drop 8 b) x (fits_block b x i opened.long h.within),
+      ),
+    )
+
+pub steps-unsteps : (enciphered deciphered : List ℕ → List ℕ) → Inverses deciphered enciphered → (m t : ℕ) (x : List ℕ) → HasRegisters x m
+    → (steps enciphered m t (unsteps deciphered m t x) ≡ x) × (IsBytes (unsteps deciphered m t x) × (length (unsteps deciphered m t x) ≡ length x))
+unfolding steps unsteps
+steps-unsteps enciphered deciphered inv m zero x h = (refl, (h.bytes, refl))
+steps-unsteps enciphered deciphered inv m (suc t) x h =
+    let y : List ℕ = unstepped deciphered (t + 1) (t % m) x in
+    let one = unstepped-keeps enciphered deciphered inv (t + 1) (t % m) x (register_of x m h t) in
+    let rest = steps-unsteps enciphered deciphered inv m t y (kept x y m h one.1) in
+    (ap (stepped enciphered (t + 1) (t % m)) rest.0 ∙ one.0, (rest.1.0, rest.1.1 ∙ one.1.1))

@@ -3,9 +3,9 @@ use Rattle.std.proofs.Common.{◌≡◌, ℕ, zero, suc, ◌+◌, ◌-◌, ◌*�
 use Rattle.std.proofs.Math.Nat.{mul-mod_left}
 use Rattle.key_wrap.specs.Wrapping.{Registers, next_registers, registers, wrapped}
 use Rattle.key_wrap.specs.InPlace.{stepped, steps}
-use Rattle.key_wrap.proofs.Laid.{length-laid}
+use Rattle.key_wrap.proofs.RegisterWrites.{length-laid}
 use Rattle.key_wrap.proofs.Undone.{turn_below, fits_sum}
-use Rattle.key_wrap.proofs.Turning.{forward, turned, turned_step, turned_none, turned_next}
+use Rattle.key_wrap.proofs.RegisterOrder.{forward, turned, turned_step, turned_none, turned_next}
 use Rattle.key_wrap.proofs.Rows.{in_row, row_step, AreSemiblocks, semiblocks_at, row_of_list}
 
 stepped-long : (enciphered : List ℕ → List ℕ) → ((b : List ℕ) → length (enciphered b) ≡ 16) → (t i : ℕ) (x : List ℕ) → 8 * i + 16 ≤ length x

@@ -1,8 +1,9 @@
 //! KW: wrapping of whole semiblocks (SP 800-38F, section 6.2).
 ghost use Rattle.std.specs.Prelude.{◌≡◌, ◌≤◌, ◌<◌, ◌+◌, ◌-◌, ◌%◌, ◌↔◌, ℕ, List, take, drop, IsNone, IfNone, IfSome};
-ghost use Rattle.bits_core.specs.ByteList.{IsBytes, zeros, zero_padded};
+ghost use Rattle.bits_core.specs.ByteList.{zeros, zero_padded};
 ghost use Rattle.aes_core.specs.Key.{aes};
 ghost use Rattle.aes_core.specs.Schedules.{IsExpanded};
+ghost use Rattle.key_wrap.specs.Unwrapping.{unkw, ShowsValue};
 ghost use Rattle.key_wrap.specs.Wrapping.{kw, IsKwOf};
 
 use crate::buffer::{put_header, take_header};
@@ -42,10 +43,11 @@ pub fn unwrap(schedule: &Schedule, buf: &mut [u8; 80], length: usize) -> Option<
     requires least { 24 ≤ length }
     requires most { length ≤ 72 }
     requires whole { length % 8 ≡ 0 }
-    ensures found { (key : List ℕ) → IsBytes key → IsExpanded schedule.now key
+    ensures found { (key : List ℕ) → IsExpanded schedule.now key
         → IfSome result (λ size. IsKwOf key (take length buf.old) (take size buf.new)) }
-    ensures refused { (key : List ℕ) → IsBytes key → IsExpanded schedule.now key
+    ensures refused { (key : List ℕ) → IsExpanded schedule.now key
         → IsNone result ↔ ((p : List ℕ) → ¬ (IsKwOf key (take length buf.old) p)) }
+    ensures value { (key : List ℕ) → IsExpanded schedule.now key → ShowsValue (unkw key (take length buf.old)) result buf.new }
     ensures size { IfSome result (λ size. size + 8 ≡ length) }
     ensures padded { IfSome result (λ size. drop size buf.new ≡ zeros (80 - size)) }
     ensures wiped { IfNone result (buf.new ≡ zeros 80) }

@@ -3,6 +3,7 @@ ghost use Rattle.std.specs.Prelude.{◌≡◌, ◌≤◌, ◌<◌, ◌+◌, ◌-
 ghost use Rattle.bits_core.specs.ByteList.{IsBytes, zeros, zero_padded};
 ghost use Rattle.aes_core.specs.Key.{aes};
 ghost use Rattle.aes_core.specs.Schedules.{IsExpanded};
+ghost use Rattle.key_wrap.specs.Unwrapping.{unkwp, ShowsValue};
 ghost use Rattle.key_wrap.specs.Wrapping.{kwp, padded, IsKwpOf, IsKwpPlain};
 ghost use Rattle.key_wrap.specs.InPlace.{padded_cipher, IsPadded, IsPaddedFrom};
 
@@ -44,7 +45,7 @@ fn encipher_padded(schedule: &Schedule, text: &mut [u8])
 fn decipher_padded(schedule: &Schedule, text: &mut [u8])
     requires rounds { 0 < schedule.now.rounds }
     requires semiblocks { IsPadded text.old }
-    ensures opened { (key : List ℕ) → IsBytes key → IsExpanded schedule.now key → text.old ≡ padded_cipher (aes key) text.new }
+    ensures opened { (key : List ℕ) → IsExpanded schedule.now key → text.old ≡ padded_cipher (aes key) text.new }
     ensures bytes { IsBytes text.new }
 {
     if text.len() == 16 {
@@ -107,10 +108,11 @@ pub fn unwrap_pad(schedule: &Schedule, buf: &mut [u8; 80], length: usize) -> Opt
     requires least { 16 ≤ length }
     requires most { length ≤ 72 }
     requires whole { length % 8 ≡ 0 }
-    ensures found { (key : List ℕ) → IsBytes key → IsExpanded schedule.now key
+    ensures found { (key : List ℕ) → IsExpanded schedule.now key
         → IfSome result (λ size. IsKwpOf key (take length buf.old) (take size buf.new)) }
-    ensures refused { (key : List ℕ) → IsBytes key → IsExpanded schedule.now key
+    ensures refused { (key : List ℕ) → IsExpanded schedule.now key
         → IsNone result ↔ ((p : List ℕ) → ¬ (IsKwpOf key (take length buf.old) p)) }
+    ensures value { (key : List ℕ) → IsExpanded schedule.now key → ShowsValue (unkwp key (take length buf.old)) result buf.new }
     ensures size { IfSome result (λ size. (1 ≤ size) × (size + 8 ≤ length)) }
     ensures padded { IfSome result (λ size. drop size buf.new ≡ zeros (80 - size)) }
     ensures wiped { IfNone result (buf.new ≡ zeros 80) }

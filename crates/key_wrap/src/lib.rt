@@ -9,7 +9,10 @@ mod semiblocks;
 
 pub use kw::{unwrap, wrap};
 pub use kwp::{unwrap_pad, wrap_pad};
-pub use laws::{kw_plaintext_is_unique, kwp_plaintext_is_unique};
+pub use laws::{
+    kw_plaintext_is_computed, kw_plaintext_is_unique, kwp_plaintext_is_computed,
+    kwp_plaintext_is_unique,
+};
 
 #[cfg(test)]
 mod tests;

@@ -48,7 +48,7 @@ fn step(schedule: &Schedule, text: &mut [u8], i: usize, t: u64)
 fn unstep(schedule: &Schedule, text: &mut [u8], i: usize, t: u64)
     requires rounds { 0 < schedule.now.rounds }
     requires within { 8 * i + 16 ≤ length text.old }
-    ensures opened { (key : List ℕ) → IsBytes key → IsExpanded schedule.now key → text.old ≡ stepped (aes key) t i text.new }
+    ensures opened { (key : List ℕ) → IsExpanded schedule.now key → text.old ≡ stepped (aes key) t i text.new }
     ensures bytes { IsBytes text.new }
 {
     let mut block = gather(text, i);
@@ -73,7 +73,7 @@ pub(crate) fn wrap_semiblocks(schedule: &Schedule, text: &mut [u8])
 pub(crate) fn unwrap_semiblocks(schedule: &Schedule, text: &mut [u8])
     requires rounds { 0 < schedule.now.rounds }
     requires semiblocks { IsSemiblocks text.old }
-    ensures opened { (key : List ℕ) → IsBytes key → IsExpanded schedule.now key → text.old ≡ wrapped (aes key) text.new }
+    ensures opened { (key : List ℕ) → IsExpanded schedule.now key → text.old ≡ wrapped (aes key) text.new }
     ensures bytes { IsBytes text.new }
 {
     let registers = text.len() / 8 - 1;

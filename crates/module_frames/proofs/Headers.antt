@@ -1,9 +1,12 @@
--- The first eight bytes: what they tell, and what shows in more bytes.
-use Rattle.std.proofs.Common.{◌≡◌, ◌≤◌, ◌<◌, ◌+◌, ◌++◌, ℕ, zero, suc, Bool, true, false, List, [], ◌∷◌, Option, Some, None, length, get_or, refl, sym, ◌∙◌, ap, arith, if◌then◌else◌}
+-- The first bytes: what they tell, and what shows in more bytes.
+use Rattle.std.proofs.Common.{◌≡◌, ◌≤◌, ◌<◌, ◌+◌, ◌-◌, ◌++◌, ℕ, zero, suc, Bool, true, false, List, [], ◌∷◌, Option, Some, None, length, take, drop, get_or, replicate, inl, inr, refl, sym, ◌∙◌, ap, arith, if◌then◌else◌}
 use Rattle.std.specs.Prelude.{nat_lt}
 use Rattle.std.specs.Option.{option_map}
 use Rattle.std.specs.Int.{from_be_bytes, w32}
-use Rattle.module_frames.specs.Streams.{first_fault, fault_from, body_length, length_bytes, is_too_long}
+use Rattle.std.proofs.lemmas.Bool.{cases_lt}
+use Rattle.std.proofs.lemmas.List.{append_assoc, length-append, length-take-le, take_all, take-append-drop}
+use Rattle.bits_core.specs.declared.limits.TheConstants.{LARGEST_BODY}
+use Rattle.module_frames.specs.Streams.{first_fault, fault_from, body_length, length_bytes, is_too_long, is_at, is_numbered, header_length}
 
 -- with nothing there is no fault
 pub first_fault-nil : first_fault [] ≡ None
@@ -89,6 +92,55 @@ pub body_length-append : (header more : List ℕ) → 8 ≤ length header → bo
 unfolding body_length
 body_length-append header more k = rw (headed header k).is refl
 
+-- and so do its four bytes, and the version
+pub length_bytes-append : (header more : List ℕ) → 8 ≤ length header → length_bytes (header ++ more) ≡ length_bytes header
+length_bytes-append header more k = rw (headed header k).is refl
+
+pub is_numbered-append : (header more : List ℕ) → 8 ≤ length header → is_numbered (header ++ more) ≡ is_numbered header
+is_numbered-append header more k = rw (headed header k).is refl
+
+-- with the version there, more bytes don't change how long the header is
+pub header_length-append : (front more : List ℕ) → 2 ≤ length front → header_length (front ++ more) ≡ header_length front
+unfolding header_length
+header_length-append [] more k = absurd (omega arith)
+header_length-append (a ∷ []) more k = absurd (omega arith)
+header_length-append (a ∷ b ∷ front) more k = refl
+
+-- nor does it with a version that is zero
+pub header_length-padded : (front : List ℕ) (n : ℕ) → header_length (front ++ replicate n 0) ≡ header_length front
+unfolding header_length
+header_length-padded [] zero = refl
+header_length-padded [] (suc zero) = refl
+header_length-padded [] (suc (suc n)) = refl
+header_length-padded (a ∷ []) zero = refl
+header_length-padded (a ∷ []) (suc n) = refl
+header_length-padded (a ∷ b ∷ front) n = refl
+
+-- without the version the header has eight bytes at least
+pub header_length-short : (bytes : List ℕ) → length bytes < 2 → header_length bytes ≡ 8
+unfolding header_length
+header_length-short [] k = refl
+header_length-short (a ∷ []) k = refl
+header_length-short (a ∷ b ∷ bytes) k = absurd (omega arith)
+
+range : (numbered : Bool) → (8 ≤ (if numbered then 12 else 8)) × ((if numbered then 12 else 8) ≤ 12)
+range true = (omega arith, omega arith)
+range false = (omega arith, omega arith)
+
+-- a header has eight to twelve bytes
+pub header_range : (bytes : List ℕ) → (8 ≤ header_length bytes) × (header_length bytes ≤ 12)
+unfolding header_length
+header_range bytes = range (is_numbered bytes)
+
+-- by its version
+pub header_plain : (bytes : List ℕ) → is_numbered bytes ≡ false → header_length bytes ≡ 8
+unfolding header_length
+header_plain bytes h = rw h refl
+
+pub header_numbered : (bytes : List ℕ) → is_numbered bytes ≡ true → header_length bytes ≡ 12
+unfolding header_length
+header_numbered bytes h = rw h refl
+
 -- the length is in the bytes 4 to 7
 pub body_length-bytes : (header : List ℕ) → 8 ≤ length header
     → body_length header ≡ from_be_bytes w32 (get_or header 4 0 ∷ get_or header 5 0 ∷ get_or header 6 0 ∷ get_or header 7 0 ∷ [])
@@ -111,7 +163,7 @@ short_is_not_too_long (a ∷ b ∷ c ∷ d ∷ e ∷ f ∷ []) k = refl
 short_is_not_too_long (a ∷ b ∷ c ∷ d ∷ e ∷ f ∷ g ∷ []) k = refl
 short_is_not_too_long (a ∷ b ∷ c ∷ d ∷ e ∷ f ∷ g ∷ h ∷ remainder) k = absurd (omega arith)
 
-pub is_too_long-headed : (header : List ℕ) → 8 ≤ length header → is_too_long header ≡ nat_lt 65600 (body_length header)
+pub is_too_long-headed : (header : List ℕ) → 8 ≤ length header → is_too_long header ≡ nat_lt LARGEST_BODY (body_length header)
 is_too_long-headed header k = rw (headed header k).is refl
 
 -- four bytes are bytes at each offset
@@ -121,3 +173,47 @@ four_fit a b c d ha hb hc hd (suc zero) = hb
 four_fit a b c d ha hb hc hd (suc (suc zero)) = hc
 four_fit a b c d ha hb hc hd (suc (suc (suc zero))) = hd
 four_fit a b c d ha hb hc hd (suc (suc (suc (suc i)))) = omega arith
+
+-- the four bytes behind the length
+four_behind : (a b c d e f g h : ℕ) (remainder : List ℕ) → length remainder ≡ 4
+    → take 4 remainder ≡ get_or (a ∷ b ∷ c ∷ d ∷ e ∷ f ∷ g ∷ h ∷ remainder) 8 0 ∷ get_or (a ∷ b ∷ c ∷ d ∷ e ∷ f ∷ g ∷ h ∷ remainder) 9 0
+    ∷ get_or (a ∷ b ∷ c ∷ d ∷ e ∷ f ∷ g ∷ h ∷ remainder) 10 0 ∷ get_or (a ∷ b ∷ c ∷ d ∷ e ∷ f ∷ g ∷ h ∷ remainder) 11 0 ∷ []
+four_behind a b c d e f g h [] k = absurd (omega arith)
+four_behind a b c d e f g h (i ∷ []) k = absurd (omega arith)
+four_behind a b c d e f g h (i ∷ j ∷ []) k = absurd (omega arith)
+four_behind a b c d e f g h (i ∷ j ∷ l ∷ []) k = absurd (omega arith)
+four_behind a b c d e f g h (i ∷ j ∷ l ∷ m ∷ more) k = refl
+
+pub number_cells : (header : List ℕ) → length header ≡ 12
+    → take 4 (drop 8 header) ≡ get_or header 8 0 ∷ get_or header 9 0 ∷ get_or header 10 0 ∷ get_or header 11 0 ∷ []
+number_cells header k =
+    let front = headed header (omega arith) in
+    let long = rw front.is at k in
+    rw front.is (four_behind front.a front.b front.c front.d front.e front.f front.g front.h front.remainder (omega (arith, long)))
+
+-- held bytes and a piece: the version is the second of all
+pub version_in_piece : (held piece : List ℕ) → length held < 2 → is_at piece (1 - length held) 2 ≡ is_numbered (held ++ piece)
+version_in_piece [] piece k = refl
+version_in_piece (a ∷ []) piece k = refl
+version_in_piece (a ∷ b ∷ held) piece k = absurd (omega arith)
+
+pub version_held : (held piece : List ℕ) → 2 ≤ length held → is_at held 1 2 ≡ is_numbered (held ++ piece)
+version_held [] piece k = absurd (omega arith)
+version_held (a ∷ []) piece k = absurd (omega arith)
+version_held (a ∷ b ∷ held) piece k = refl
+
+-- no header is empty
+pub not_whole : (bytes : List ℕ) → 0 ≡ header_length bytes → ⊥
+not_whole bytes h = omega (arith, h, header_range bytes)
+
+-- the bytes taken tell how long the header is, as all of the piece does
+pub cut_piece : (front piece : List ℕ) (count : ℕ) → count ≤ length piece → (length front + count < 2 → length piece ≤ count)
+    → header_length (front ++ take count piece) ≡ header_length (front ++ piece)
+cut_piece front piece count within all = elim (cases_lt (length front + count) 2) [
+  | inl few ↦ ap (λ xs. header_length (front ++ xs)) (take_all count piece (all few))
+  | inr more ↦
+      let whole : (front ++ take count piece) ++ drop count piece ≡ front ++ piece =
+      append_assoc front (take count piece) (drop count piece) ∙ ap (λ xs. front ++ xs) (take-append-drop count piece) in
+      let long : length (front ++ take count piece) ≡ length front + count = omega (arith, length-append front (take count piece), length-take-le count piece within) in
+      sym (header_length-append (front ++ take count piece) (drop count piece) (omega (arith, long, more))) ∙ ap header_length whole
+]

@@ -1,6 +1,7 @@
 pub mod Zeros
 pub mod Joined
 pub mod Headers
+pub mod Sequences
 pub mod CommandEncodings
 pub mod Parsing
 pub mod Holding

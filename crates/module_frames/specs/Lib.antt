@@ -9,5 +9,6 @@ pub mod Steps
 pub mod ReplyFrames
 pub mod Replies
 pub mod ReplyHeads
+pub mod HeadParts
 pub mod PublicState
 pub mod PublicEffects

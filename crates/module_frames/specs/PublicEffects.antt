@@ -1,9 +1,16 @@
--- What the services make of the public state. These rules are this project's own.
-use Rattle.std.specs.Prelude.{ℕ, ◌+◌, ◌==◌, ◌&&◌, not, nat_lt, Bool, if◌then◌else◌}
+-- What the services make of the public state. These rules are this project's own. The sequence number that is expected changes where a
+-- numbered command is taken, and nowhere else.
+use Rattle.std.specs.Prelude.{ℕ, ◌+◌, ◌%◌, ◌^◌, ◌==◌, ◌&&◌, not, nat_lt, Bool, if◌then◌else◌}
+use Rattle.service_table.specs.declared.failure.Failure.{Failure}
+use Rattle.service_table.specs.Failures.{failure_code}
 use Rattle.service_table.specs.declared.state.State.{State}
 use Rattle.service_table.specs.declared.state.State.TheVariants as state
 use Rattle.service_table.specs.Numbers.{state_number}
 use Rattle.module_frames.specs.declared.public_state.PublicState.{PublicState}
+
+-- A numbered command that comes in its order: the number after it is expected now, and 0 after the last one of 32 bits.
+abbrev pub sequence_taken : PublicState → PublicState
+sequence_taken public = record public { next_sequence = (public.next_sequence + 1) % 2 ^ 32 }
 
 -- PowerOn: Off to Init, and sets the period, of which no use is counted yet
 abbrev pub powered_on : ℕ → PublicState → PublicState
@@ -31,6 +38,10 @@ test_done public =
     then record public { tests_done = public.tests_done + 1 }
     else record public { state = public.return_state; return_state = state.Off; tests_done = 0 }
 
+-- a failure: the state is Error, with the code of what failed, and no test is due any more
+abbrev pub has_failed : Failure → PublicState → PublicState
+has_failed why public = record public { state = state.Error; return_state = state.Off; tests_done = 0; error_code = failure_code why }
+
 -- the state of a role: none, the crypto officer's, the user's
 abbrev pub role_state : ℕ → State
 role_state role = if role == 0 then state.Approved else if role == 1 then state.Officer else state.User
@@ -39,7 +50,7 @@ role_state role = if role == 0 then state.Approved else if role == 1 then state.
 abbrev pub role_selected : ℕ → PublicState → PublicState
 role_selected role public = record public { state = role_state role }
 
--- Reset: to Init; the period stays
+-- Reset: to Init; the period and the expected sequence number stay
 abbrev pub was_reset : PublicState → PublicState
 was_reset public = record public { state = state.Init; return_state = state.Off; tests_done = 0; uses_since_tests = 0; error_code = 0 }
 

@@ -6,9 +6,9 @@ use Rattle.service_table.specs.declared.state.State.TheVariants as state
 use Rattle.service_table.specs.Numbers.{state_number}
 use Rattle.module_frames.specs.declared.public_state.PublicState.{PublicState}
 
--- without power: all else is zero
+-- without power: a command is expected to have the sequence number 1, and all else is zero
 abbrev pub unpowered : PublicState
-unpowered = record { state = state.Off; return_state = state.Off; tests_done = 0; period = 0; uses_since_tests = 0; error_code = 0 }
+unpowered = record { state = state.Off; return_state = state.Off; tests_done = 0; period = 0; uses_since_tests = 0; error_code = 0; next_sequence = 1 }
 
 -- a status block that tells nothing
 abbrev pub no_block : List ℕ
@@ -20,6 +20,10 @@ abbrev pub status_block : PublicState → ℕ → List ℕ
 status_block public tests_passed =
     state_number public.return_state ∷ public.tests_done
     ∷ (to_be_bytes w16 tests_passed ++ (to_be_bytes w32 public.period ++ to_be_bytes w32 public.uses_since_tests))
+
+-- the status block that tells the sequence number that is expected: four bytes, and eight zeros
+abbrev pub sequence_block : PublicState → List ℕ
+sequence_block public = to_be_bytes w32 public.next_sequence ++ replicate 8 0
 
 -- the status block that tells name and version
 abbrev pub version_block : List ℕ

@@ -1,17 +1,17 @@
 // A command, in a buffer of its own.
 ghost use Rattle.std.specs.Prelude.{◌≡◌, ◌+◌, ◌≤◌, ◌++◌, [], IfOk, length, take, drop, replicate};
+ghost use Rattle.bits_core.specs.declared.limits.TheConstants.{LARGEST_BODY};
 
+use bits_core::LARGEST_BODY;
 use std::alloc::{AllocError, Global};
 use std::marker::Model;
 
-/// The longest body that a command may have, in bytes.
-pub const BODY_MAX: usize = 65_600;
-
-/// A command: the number of a service, and a body of at most 65,600 bytes. Contracts see these two.
+/// A command: the number of a service, a sequence number where the command has one, and a body of at most 65,600 bytes. Contracts see these.
 /// By a rule of the type the buffer's bytes past the body are zero.
 #[derive(Drop)]
 pub struct Command {
     service: u8,
+    sequence: Option<u32>,
     buffer: Vec<u8>,
     used: usize,
 }
@@ -48,42 +48,60 @@ fn zero_used(buffer: &mut Vec<u8>, used: usize)
 }
 
 impl Command {
-    /// The command of service 0 with an empty body.
+    /// The command of service 0, without a sequence number and with an empty body.
     pub fn new(alloc: Global) -> Result<Command, AllocError>
-        ensures { IfOk result (λ command. command ≡ record { service = 0; body = [] }) }
+        ensures { IfOk result (λ command. command ≡ record { service = 0; sequence = None; body = [] }) }
     {
-        let buffer = vec![in alloc; 0; BODY_MAX]?;
+        let buffer = vec![in alloc; 0; LARGEST_BODY]?;
         Ok(Command {
             service: 0,
+            sequence: None,
             buffer,
             used: 0,
         })
     }
 
-    /// Begins a command for the service, with an empty body.
-    pub fn start(&mut self, service: u8)
-        ensures { self.new ≡ record { service = service; body = [] } }
+    // Begins a command for the service, with an empty body, and with a sequence number where one is given.
+    pub(crate) fn begin(&mut self, service: u8, sequence: Option<u32>)
+        ensures { self.new ≡ record { service = service; sequence = sequence; body = [] } }
     {
         zero_used(&mut self.buffer, self.used);
         self.used = 0;
         self.service = service;
+        self.sequence = sequence;
+    }
+
+    /// Begins a command of version 1 for the service, with an empty body.
+    pub fn start(&mut self, service: u8)
+        ensures { self.new ≡ record { service = service; sequence = None; body = [] } }
+    {
+        self.begin(service, None);
     }
 
     /// Adds a piece to the body, which has at most 65,600 bytes then.
     pub fn push(&mut self, piece: &[u8])
-        requires { length self.old.body + length piece.now ≤ 65600 }
+        requires { length self.old.body + length piece.now ≤ LARGEST_BODY }
         ensures { self.new ≡ record self.old { body = self.old.body ++ piece.now } }
     {
         put(&mut self.buffer, self.used, piece);
         self.used += piece.len();
     }
 
-    /// Makes it the command for the service with this body, of at most 65,600 bytes.
+    /// Makes it the command of version 1 for the service with this body, of at most 65,600 bytes.
     pub fn set(&mut self, service: u8, body: &[u8])
-        requires { length body.now ≤ 65600 }
-        ensures { self.new ≡ record { service = service; body = body.now } }
+        requires { length body.now ≤ LARGEST_BODY }
+        ensures { self.new ≡ record { service = service; sequence = None; body = body.now } }
     {
-        self.start(service);
+        self.begin(service, None);
+        self.push(body);
+    }
+
+    /// Makes it the command of version 2 for the service, with this sequence number and this body, of at most 65,600 bytes.
+    pub fn set_numbered(&mut self, service: u8, sequence: u32, body: &[u8])
+        requires { length body.now ≤ LARGEST_BODY }
+        ensures { self.new ≡ record { service = service; sequence = Some sequence; body = body.now } }
+    {
+        self.begin(service, Some(sequence));
         self.push(body);
     }
 
@@ -94,18 +112,25 @@ impl Command {
         self.service
     }
 
+    /// The sequence number. `None` exactly for a command of version 1.
+    pub fn sequence(&self) -> Option<u32>
+        ensures { result ≡ self.now.sequence }
+    {
+        self.sequence
+    }
+
     /// The body, of at most 65,600 bytes.
     pub fn body(&self) -> &[u8]
         ensures body { result.now ≡ self.now.body }
-        ensures sendable { length self.now.body ≤ 65600 }
+        ensures sendable { length self.now.body ≤ LARGEST_BODY }
     {
         &self.buffer[..self.used]
     }
 
-    /// Makes it the command of service 0 with an empty body. No byte of the old one stays.
+    /// Makes it the command of service 0, without a sequence number and with an empty body. No byte of the old one stays.
     pub fn clear(&mut self)
-        ensures { self.new ≡ record { service = 0; body = [] } }
+        ensures { self.new ≡ record { service = 0; sequence = None; body = [] } }
     {
-        self.start(0);
+        self.begin(0, None);
     }
 }

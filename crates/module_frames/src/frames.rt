@@ -1,13 +1,14 @@
 // Bytes in any pieces, and the commands that they encode.
 ghost use Rattle.std.specs.Prelude.{◌≡◌, ◌+◌, ◌-◌, ◌^◌, ◌≤◌, ◌<◌, ◌↔◌, ◌++◌, [], true, false, IfOk, IfSome, IsTrue, length, take, drop, min, None};
+ghost use Rattle.module_frames.specs.Readers.{TellsSequence};
 ghost use Rattle.std.specs.Int.{to_be_bytes, w32};
-ghost use Rattle.module_frames.specs.Streams.{first_fault, body_length, length_bytes, is_wrong_at, is_too_long};
+ghost use Rattle.module_frames.specs.Streams.{first_fault, body_length, length_bytes, is_wrong_at, is_at, is_numbered, header_length, is_too_long};
 ghost use Rattle.module_frames.specs.CommandFrames.{IsCommandFrame};
 ghost use Rattle.module_frames.specs.Steps.{FeedsHeader};
 ghost use Rattle.module_frames.specs.Fragments.{Feeds, IsComplete, IsIncomplete, new_fragment, cleared_fragment};
 
 use crate::Command;
-use crate::command::BODY_MAX;
+use bits_core::LARGEST_BODY;
 use std::alloc::{AllocError, Global};
 use std::marker::Model;
 
@@ -28,7 +29,7 @@ pub enum Fed {
 #[derive(Drop)]
 pub struct Frames {
     start: u64,
-    header: [u8; 8],
+    header: [u8; 12],
     count: usize,
     command: Command,
     fault: Option<u64>,
@@ -46,13 +47,19 @@ impl Model for Frames {
     ghost invariant = { IsReader };
 }
 
-// Fills the header up with bytes from the front of the piece, and says how many.
-fn fill(header: &mut [u8; 8], count: usize, piece: &[u8]) -> usize
-    requires { count ≤ 8 }
-    ensures taken { result ≡ min (8 - count) (length piece.now) }
+// The length of a header of version 1, in bytes, and that of one of version 2, which has a sequence number behind it.
+const PLAIN_HEADER: usize = 8;
+
+const NUMBERED_HEADER: usize = 12;
+
+// Fills the header, of so many bytes, up with bytes from the front of the piece, and says how many.
+fn fill(header: &mut [u8; 12], size: usize, count: usize, piece: &[u8]) -> usize
+    requires within { count ≤ size }
+    requires fits { size ≤ 12 }
+    ensures taken { result ≡ min (size - count) (length piece.now) }
     ensures bytes { header.new ≡ take count header.old ++ (take result piece.now ++ drop (count + result) header.old) }
 {
-    let taken = piece.len().min(8 - count);
+    let taken = piece.len().min(size - count);
     header[count..count + taken].copy_from_slice(&piece[..taken]);
     taken
 }
@@ -64,6 +71,62 @@ fn is_wrong_at(header: &[u8], offset: usize, wanted: u8) -> bool
     match header.get(offset) {
         Some(byte) => *byte != wanted,
         None => false,
+    }
+}
+
+// Whether the byte at the offset is there and is the wanted one.
+fn is_at(bytes: &[u8], offset: usize, wanted: u8) -> bool
+    ensures { result ≡ is_at bytes.now offset wanted }
+{
+    match bytes.get(offset) {
+        Some(byte) => *byte == wanted,
+        None => false,
+    }
+}
+
+// Whether a header is that of version 2 that begins with the bytes held and goes on with the piece.
+fn is_numbered_with(held: &[u8], piece: &[u8]) -> bool
+    ensures { result ≡ is_numbered (held.now ++ piece.now) }
+{
+    if held.len() < 2 {
+        is_at(piece, 1 - held.len(), 0x02)
+    } else {
+        is_at(held, 1, 0x02)
+    }
+}
+
+// How many bytes the header has that begins so.
+#[tactic(auto, unfolding(crate::specs::Streams::header_length))]
+fn header_length(header: &[u8]) -> usize
+    ensures { result ≡ header_length header.now }
+{
+    if is_at(header, 1, 0x02) {
+        NUMBERED_HEADER
+    } else {
+        PLAIN_HEADER
+    }
+}
+
+// How many bytes the header has that begins with the bytes held and goes on with the piece.
+#[tactic(auto, unfolding(crate::specs::Streams::header_length))]
+fn length_with(held: &[u8], piece: &[u8]) -> usize
+    ensures { result ≡ header_length (held.now ++ piece.now) }
+{
+    if is_numbered_with(held, piece) {
+        NUMBERED_HEADER
+    } else {
+        PLAIN_HEADER
+    }
+}
+
+// The sequence number that a whole header tells, where its version has one.
+fn sequence_of(header: &[u8; 12]) -> Option<u32>
+    ensures { TellsSequence result header.now }
+{
+    if is_at(header, 1, 0x02) {
+        Some(u32::from_be_bytes([header[8], header[9], header[10], header[11]]))
+    } else {
+        None
     }
 }
 
@@ -80,7 +143,7 @@ fn body_length(header: &[u8]) -> usize
 fn is_too_long(header: &[u8]) -> bool
     ensures { result ≡ is_too_long header.now }
 {
-    header.len() >= 8 && body_length(header) > BODY_MAX
+    header.len() >= PLAIN_HEADER && body_length(header) > LARGEST_BODY
 }
 
 // The offset of the first fault that the bytes of a header show.
@@ -91,7 +154,7 @@ fn first_fault(header: &[u8]) -> Option<u64>
 {
     if is_wrong_at(header, 0, 0xc5) {
         Some(0)
-    } else if is_wrong_at(header, 1, 0x01) {
+    } else if is_wrong_at(header, 1, 0x01) && is_wrong_at(header, 1, 0x02) {
         Some(1)
     } else if is_wrong_at(header, 3, 0x00) {
         Some(3)
@@ -111,7 +174,7 @@ impl Frames {
         let command = Command::new(alloc)?;
         Ok(Frames {
             start: 0,
-            header: [0; 8],
+            header: [0; 12],
             count: 0,
             command,
             fault: None,
@@ -124,30 +187,41 @@ impl Frames {
         requires short { self.old.start + length self.old.bytes + length piece.now ≤ 2 ^ 63 }
         ensures { FeedsHeader self.old piece.now result self.new }
     {
-        if self.count == 8 {
+        if self.is_headed() {
             return Ok(0);
         }
-        let taken = fill(&mut self.header, self.count, piece);
+        let size = length_with(&self.header[..self.count], piece);
+        let taken = fill(&mut self.header, size, self.count, piece);
         self.count += taken;
         if let Some(within) = first_fault(&self.header[..self.count]) {
             let offset = self.start + within;
-            self.header = [0; 8];
+            self.header = [0; 12];
             self.count = 0;
             self.fault = Some(offset);
             return Err(offset);
         }
-        if self.count == 8 {
-            self.command.start(self.header[2]);
+        if self.count == size {
+            self.command
+                .begin(self.header[2], sequence_of(&self.header));
         }
         Ok(taken)
+    }
+
+    // Whether a whole header is held.
+    fn is_headed(&self) -> bool
+        ensures yes { result ≡ true → header_length self.now.bytes ≤ length self.now.bytes }
+        ensures short { result ≡ false → length self.now.bytes < header_length self.now.bytes }
+        ensures incomplete { result ≡ false → IsIncomplete self.now.bytes }
+    {
+        self.count == header_length(&self.header)
     }
 
     // Takes bytes of the body, and says how many.
     fn take_body(&mut self, piece: &[u8]) -> usize
         requires no_fault { self.old.fault ≡ None }
-        requires headed { 8 ≤ length self.old.bytes }
+        requires headed { header_length self.old.bytes ≤ length self.old.bytes }
         requires short { self.old.start + length self.old.bytes + length piece.now ≤ 2 ^ 63 }
-        ensures taken { result ≡ min (8 + body_length self.old.bytes - length self.old.bytes) (length piece.now) }
+        ensures taken { result ≡ min (header_length self.old.bytes + body_length self.old.bytes - length self.old.bytes) (length piece.now) }
         ensures held { self.new ≡ record self.old { bytes = self.old.bytes ++ take result piece.now } }
     {
         let missing = body_length(&self.header) - self.command.body().len();
@@ -161,9 +235,9 @@ impl Frames {
         requires { self.now.fault ≡ None }
         ensures whole { result ≡ true → IsComplete self.now }
         ensures incomplete { result ≡ false → IsIncomplete self.now.bytes }
-        ensures short { result ≡ false → 8 ≤ length self.now.bytes → length self.now.bytes < 8 + body_length self.now.bytes }
+        ensures short { result ≡ false → length self.now.bytes < header_length self.now.bytes + body_length self.now.bytes }
     {
-        self.count == 8 && self.command.body().len() == body_length(&self.header)
+        self.is_headed() && self.command.body().len() == body_length(&self.header)
     }
 
     /// Takes bytes from the front of the next piece of the stream, up to the end of a command.
@@ -181,7 +255,7 @@ impl Frames {
             Ok(head) => head,
             Err(offset) => return Fed::BadFrame(offset),
         };
-        if self.count < 8 {
+        if !self.is_headed() {
             return Fed::More;
         }
         let taken = head + self.take_body(&piece[head..]);
@@ -206,7 +280,7 @@ impl Frames {
         ensures incomplete { IsIncomplete self.new.bytes }
     {
         self.start += (self.count + self.command.body().len()) as u64;
-        self.header = [0; 8];
+        self.header = [0; 12];
         self.count = 0;
         self.command.clear();
     }

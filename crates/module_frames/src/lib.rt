@@ -14,7 +14,7 @@ mod tests;
 
 pub use command::Command;
 pub use frames::{Fed, Frames};
-pub use head::{PAYLOAD_MAX, ReplyHead, reply_head};
+pub use head::{ReplyHead, reply_head};
 pub use laws::{heads_read_back, parses_in_one_way};
 pub use public_state::PublicState;
 pub use reply::Reply;

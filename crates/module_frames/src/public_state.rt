@@ -2,7 +2,7 @@
 ghost use Rattle.std.specs.Prelude.{◌≡◌, ◌<◌, ◌≤◌};
 ghost use Rattle.module_frames.specs.PublicEffects.{return_from, role_state};
 
-use service_table::State;
+use service_table::{Failure, State};
 
 /// The part of the module's state that everyone may see. No key ever reaches it.
 #[derive(Clone, Copy, Debug, PartialEq, Eq)]
@@ -18,6 +18,8 @@ pub struct PublicState {
     pub uses_since_tests: u32,
     /// What failed, in the state Error; 0 in every other.
     pub error_code: u16,
+    /// The sequence number that the next numbered command is expected to have.
+    pub next_sequence: u32,
 }
 
 // Where self-tests return that were asked for in this state.
@@ -48,10 +50,10 @@ fn role_state(role: u8) -> State
 }
 
 impl PublicState {
-    ghost use Rattle.module_frames.specs.PublicState.{unpowered, status_block};
-    ghost use Rattle.module_frames.specs.PublicEffects.{powered_on, tests_requested, test_done, role_selected, was_reset, entry_begun, entry_ended, use_counted, is_period_over, sent_to_tests};
+    ghost use Rattle.module_frames.specs.PublicState.{unpowered, status_block, sequence_block};
+    ghost use Rattle.module_frames.specs.PublicEffects.{sequence_taken, powered_on, tests_requested, test_done, has_failed, role_selected, was_reset, entry_begun, entry_ended, use_counted, is_period_over, sent_to_tests};
 
-    /// That of a module without power: Off, and all else zero.
+    /// That of a module without power: Off, the sequence number 1 expected, and all else zero.
     pub fn unpowered() -> PublicState
         ensures { result ≡ unpowered }
     {
@@ -62,6 +64,17 @@ impl PublicState {
             period: 0,
             uses_since_tests: 0,
             error_code: 0,
+            next_sequence: 1,
+        }
+    }
+
+    /// After a numbered command that came in its order: the next number is expected, and 0 after the last one of 32 bits.
+    pub fn sequence_taken(self) -> PublicState
+        ensures { result ≡ sequence_taken self }
+    {
+        PublicState {
+            next_sequence: self.next_sequence.wrapping_add(1),
+            ..self
         }
     }
 
@@ -108,6 +121,19 @@ impl PublicState {
         }
     }
 
+    /// After a failure: Error, with the code of what failed. The period and the uses counted stay.
+    pub fn has_failed(self, why: Failure) -> PublicState
+        ensures { result ≡ has_failed why self }
+    {
+        PublicState {
+            state: State::Error,
+            return_state: State::Off,
+            tests_done: 0,
+            error_code: why.code(),
+            ..self
+        }
+    }
+
     /// After SelectRole: no role (0), the crypto officer's (1), the user's (2).
     pub fn role_selected(self, role: u8) -> PublicState
         ensures { result ≡ role_selected role self }
@@ -118,7 +144,7 @@ impl PublicState {
         }
     }
 
-    /// After Reset. The period stays.
+    /// After Reset. The period and the expected sequence number stay.
     pub fn was_reset(self) -> PublicState
         ensures { result ≡ was_reset self }
     {
@@ -207,6 +233,16 @@ impl PublicState {
             uses[1],
             uses[2],
             uses[3],
+        ]
+    }
+
+    /// The status block that tells the expected sequence number.
+    pub fn sequence_block(self) -> [u8; 12]
+        ensures { result ≡ sequence_block self }
+    {
+        let number = self.next_sequence.to_be_bytes();
+        [
+            number[0], number[1], number[2], number[3], 0, 0, 0, 0, 0, 0, 0, 0,
         ]
     }
 }

@@ -1,10 +1,12 @@
 // A reply, and its header.
-ghost use Rattle.std.specs.Prelude.{◌≡◌, ◌++◌, IfOk, length};
+ghost use Rattle.std.specs.Prelude.{◌≡◌, ◌+◌, ◌-◌, ◌++◌, IfOk, length, take, drop};
+ghost use Rattle.bits_core.specs.declared.limits.TheConstants.{LARGEST_PAYLOAD};
+ghost use Rattle.bits_core.specs.ByteList.{zeros, zero_padded};
+ghost use Rattle.module_frames.specs.CommandFrames.{version_of, sequence_bytes};
 ghost use Rattle.module_frames.specs.ReplyHeads.{indicator};
 ghost use Rattle.module_frames.specs.ReplyFrames.{reply_header};
 
-use crate::PAYLOAD_MAX;
-use bits_core::Outbox;
+use bits_core::{LARGEST_PAYLOAD, Outbox};
 use service_table::{State, Status};
 use std::alloc::{AllocError, Global};
 
@@ -13,11 +15,14 @@ use std::alloc::{AllocError, Global};
 pub struct Reply {
     /// The number of the command's service.
     pub service: u8,
+    /// The command's sequence number, where it has one.
+    pub sequence: Option<u32>,
     /// Done, or the first reason of refusal.
     pub status: Status,
     /// The state after the command.
     pub state: State,
-    /// The indicator of approved services (FIPS 140-3, ISO/IEC 19790:2012, 7.2.4.2).
+    /// The indicator of approved services. The standard asks for one (ISO/IEC 19790:2012, 7.2.4.2); that it is one byte of the head is
+    /// this project's own form of it.
     pub approved: bool,
     /// The error code.
     pub code: u16,
@@ -25,7 +30,7 @@ pub struct Reply {
     pub block: [u8; 12],
     /// The data that the service gave.
     pub payload: Outbox,
-    ghost room: { payload.room ≡ 65664 },
+    ghost room: { payload.room ≡ LARGEST_PAYLOAD },
 }
 
 fn indicator(approved: bool) -> u8
@@ -34,20 +39,52 @@ fn indicator(approved: bool) -> u8
     if approved { 1 } else { 0 }
 }
 
-// Writes the four parts of a header one behind the other.
+// The version of the frame of a reply with this sequence number.
+fn version(sequence: Option<u32>) -> u8
+    ensures { result ≡ version_of sequence }
+{
+    match sequence {
+        Some(_) => 0x02,
+        None => 0x01,
+    }
+}
+
+// The four bytes of a sequence number, or zeros.
+fn number_bytes(sequence: Option<u32>) -> [u8; 4]
+    ensures { result ≡ zero_padded 4 (sequence_bytes sequence) }
+{
+    match sequence {
+        Some(number) => number.to_be_bytes(),
+        None => [0; 4],
+    }
+}
+
+// The length of the header of a reply with this sequence number.
+fn header_length(sequence: Option<u32>) -> usize
+    ensures { result ≡ 24 + length (sequence_bytes sequence) }
+{
+    match sequence {
+        Some(_) => 28,
+        None => 24,
+    }
+}
+
+// Writes the five parts of a header one behind the other.
 fn put_parts(
-    into: &mut [u8; 24],
+    into: &mut [u8; 28],
     front: &[u8; 6],
     code: &[u8; 2],
     block: &[u8; 12],
     payload: &[u8; 4],
+    number: &[u8; 4],
 )
-    ensures { into.new ≡ front.now ++ (code.now ++ (block.now ++ payload.now)) }
+    ensures { into.new ≡ front.now ++ (code.now ++ (block.now ++ (payload.now ++ number.now))) }
 {
     into[..6].copy_from_slice(front);
     into[6..8].copy_from_slice(code);
     into[8..20].copy_from_slice(block);
-    into[20..].copy_from_slice(payload);
+    into[20..24].copy_from_slice(payload);
+    into[24..].copy_from_slice(number);
 }
 
 impl Reply {
@@ -57,9 +94,10 @@ impl Reply {
     pub fn new(alloc: Global) -> Result<Reply, AllocError>
         ensures { IfOk result IsCleared }
     {
-        let payload = Outbox::new(alloc, PAYLOAD_MAX)?;
+        let payload = Outbox::new(alloc, LARGEST_PAYLOAD)?;
         Ok(Reply {
             service: 0,
+            sequence: None,
             status: Status::Ok,
             state: State::Off,
             approved: false,
@@ -76,13 +114,15 @@ impl Reply {
         self.payload.bytes().len() as u32
     }
 
-    /// Writes the header of the reply's frame: 24 bytes.
-    pub fn header(&self, into: &mut [u8; 24])
-        ensures { into.new ≡ reply_header (frame_of self.now) }
+    /// Writes the header of the reply's frame, and answers its length: 24 bytes, or 28 with a sequence number. The bytes past it are zero.
+    pub fn header(&self, into: &mut [u8; 28]) -> usize
+        ensures length { result ≡ length (reply_header (frame_of self.now)) }
+        ensures header { take result into.new ≡ reply_header (frame_of self.now) }
+        ensures spare { drop result into.new ≡ zeros (28 - result) }
     {
         let front = [
             0x5c,
-            0x01,
+            version(self.sequence),
             self.service,
             self.status.number(),
             self.state.number(),
@@ -90,7 +130,9 @@ impl Reply {
         ];
         let code = self.code.to_be_bytes();
         let length = self.payload_length().to_be_bytes();
-        put_parts(into, &front, &code, &self.block, &length);
+        let number = number_bytes(self.sequence);
+        put_parts(into, &front, &code, &self.block, &length, &number);
+        header_length(self.sequence)
     }
 
     /// Makes all of it zero, and the payload empty.
@@ -98,6 +140,7 @@ impl Reply {
         ensures { IsCleared self.new }
     {
         self.service = 0;
+        self.sequence = None;
         self.status = Status::Ok;
         self.state = State::Off;
         self.approved = false;

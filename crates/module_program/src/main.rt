@@ -2,6 +2,10 @@
 #![tactic(auto)]
 
 #[cfg(test)]
+mod known_answer_tests;
+#[cfg(test)]
+mod sequence_tests;
+#[cfg(test)]
 mod service_rows;
 #[cfg(test)]
 mod service_tests;

@@ -16,20 +16,32 @@ use std::alloc::Global;
 use std::test::Fail;
 
 // What a reply tells beside its status and its state: the indicator, the status block and the payload.
-type Told<'a> = (u8, [u8; 12], &'a [u8]);
+pub(crate) type Told<'a> = (u8, [u8; 12], &'a [u8]);
 
 // A service, a body, and of the reply the status, the state and what else it tells.
-type Row<'a> = (u8, &'a [u8], u8, u8, Told<'a>);
+pub(crate) type Row<'a> = (u8, &'a [u8], u8, u8, Told<'a>);
 
-const NO_BLOCK: [u8; 12] = [0; 12];
+pub(crate) const NO_BLOCK: [u8; 12] = [0; 12];
 
-const NOTHING: Told<'static> = (0, NO_BLOCK, &[]);
+pub(crate) const NOTHING: Told<'static> = (0, NO_BLOCK, &[]);
 
-fn play(dialogue: &mut Dialogue, rows: &[Row]) -> Result<(), Fail> {
+pub(crate) fn play(dialogue: &mut Dialogue, rows: &[Row]) -> Result<(), Fail> {
+    play_with_code(dialogue, rows, (0, 0))
+}
+
+// Rows whose replies carry this error code.
+pub(crate) fn play_with_code(
+    dialogue: &mut Dialogue,
+    rows: &[Row],
+    code: (u8, u8),
+) -> Result<(), Fail> {
+    let (high, low) = code;
     for (service, body, status, state, (indicator, block, payload)) in rows {
         dialogue.command(*service, body)?;
         let mut reply = reply_to(&[0xc5, 0x01, *service], *status, *state, block);
         reply[5] = *indicator;
+        reply[6] = high;
+        reply[7] = low;
         reply[23] = u8::try_from(payload.len()).ok().ok_or("a short payload")?;
         dialogue.want.extend_from_slice(&reply)?;
         dialogue.want.extend_from_slice(payload)?;
@@ -49,18 +61,20 @@ fn played(alloc: Global, parts: &[&[Row]], step: usize) -> Result<(u8, MemSink, 
     Ok((status, replies, dialogue.want))
 }
 
-const POWER_ON: Row<'static> = (0x01, &[0, 0, 0, 0], 0, 1, NOTHING);
+pub(crate) const POWER_ON: Row<'static> = (0x01, &[0, 0, 0, 0], 0, 1, NOTHING);
 
-const OFFICER: Row<'static> = (0x06, &[1], 0, 4, NOTHING);
+pub(crate) const OFFICER: Row<'static> = (0x06, &[1], 0, 4, NOTHING);
 
-const USER: Row<'static> = (0x06, &[2], 0, 5, NOTHING);
+pub(crate) const USER: Row<'static> = (0x06, &[2], 0, 5, NOTHING);
 
-const TESTED: Row<'static> = (0x02, &[], 0, 2, NOTHING);
+pub(crate) const TESTED: Row<'static> = (0x02, &[], 0, 2, NOTHING);
+
+pub(crate) const REQUEST_TESTS: Row<'static> = (0x03, &[], 0, 2, NOTHING);
 
 // From Off to Approved, without a period.
-const UP: [Row<'static>; 5] = [
+pub(crate) const UP: [Row<'static>; 5] = [
     POWER_ON,
-    (0x03, &[], 0, 2, NOTHING),
+    REQUEST_TESTS,
     TESTED,
     TESTED,
     (0x02, &[], 0, 3, NOTHING),
@@ -83,8 +97,14 @@ const HASHES: [Row<'static>; 16] = [
     OFFICER,
     (0x10, b"\x01abc", 0, 4, (1, NO_BLOCK, &HASH_256_ABC)),
     (0x10, b"\x04abc", 3, 4, NOTHING),
-    // A period of 0 counts nothing.
-    (0x04, b"", 0, 4, NOTHING),
+    // A period of 0 counts nothing. Each algorithm passed its test at its first use.
+    (
+        0x04,
+        b"",
+        0,
+        4,
+        (0, [0, 0, 0x40, 0x1e, 0, 0, 0, 0, 0, 0, 0, 0], &[]),
+    ),
 ];
 
 #[test]
@@ -399,23 +419,30 @@ fn commits_an_entry_that_is_right(rt: HostRuntime) -> Result<(), Fail> {
     Ok(())
 }
 
-// ShowStatus's block: where tests return to, how many were done, the period, and the count.
-const COUNT_0: Told<'static> = (0, [0, 0, 0, 0, 0, 0, 0, 3, 0, 0, 0, 0], &[]);
+// ShowStatus's block: where tests return to, how many were done, those that passed, the period, and the count. Those that pass on
+// the way are numbers 4 and 14, HMAC-SHA-256 and the generator, and number 1 is that of SHA-256.
+const COUNT_0: Told<'static> = (0, [0, 0, 0x40, 0x10, 0, 0, 0, 3, 0, 0, 0, 0], &[]);
 
-const COUNT_1: Told<'static> = (0, [0, 0, 0, 0, 0, 0, 0, 3, 0, 0, 0, 1], &[]);
+const COUNT_1: Told<'static> = (0, [0, 0, 0x40, 0x10, 0, 0, 0, 3, 0, 0, 0, 1], &[]);
 
-const COUNT_2: Told<'static> = (0, [0, 0, 0, 0, 0, 0, 0, 3, 0, 0, 0, 2], &[]);
+const COUNT_1_HASHED: Told<'static> = (0, [0, 0, 0x40, 0x12, 0, 0, 0, 3, 0, 0, 0, 1], &[]);
+
+const COUNT_2: Told<'static> = (0, [0, 0, 0x40, 0x10, 0, 0, 0, 3, 0, 0, 0, 2], &[]);
+
+const COUNT_2_HASHED: Told<'static> = (0, [0, 0, 0x40, 0x12, 0, 0, 0, 3, 0, 0, 0, 2], &[]);
 
 const TO_USER: Told<'static> = (0, [5, 0, 0, 0, 0, 0, 0, 3, 0, 0, 0, 0], &[]);
 
-const TO_USER_AFTER_2: Told<'static> = (0, [5, 2, 0, 0, 0, 0, 0, 3, 0, 0, 0, 0], &[]);
+const TO_USER_AFTER_2: Told<'static> = (0, [5, 2, 0, 0x10, 0, 0, 0, 3, 0, 0, 0, 0], &[]);
 
 const TO_OFFICER: Told<'static> = (0, [4, 0, 0, 0, 0, 0, 0, 3, 0, 0, 0, 0], &[]);
+
+const UNTESTED: Told<'static> = (0, [0, 0, 0, 0, 0, 0, 0, 3, 0, 0, 0, 0], &[]);
 
 // From Off to Approved, with period 3.
 const UP_3: [Row<'static>; 5] = [
     (0x01, &[0, 0, 0, 3], 0, 1, NOTHING),
-    (0x03, &[], 0, 2, NOTHING),
+    REQUEST_TESTS,
     TESTED,
     TESTED,
     (0x02, &[], 0, 3, NOTHING),
@@ -427,7 +454,7 @@ const PERIOD: [Row<'static>; 14] = [
     USER,
     HASH_ABC,
     HASH_ABC,
-    (0x04, &[], 0, 5, COUNT_2),
+    (0x04, &[], 0, 5, COUNT_2_HASHED),
     // The third reply still has its data.
     (0x10, b"\x01abc", 0, 2, (1, NO_BLOCK, &HASH_256_ABC)),
     (0x10, b"\x01abc", 2, 2, NOTHING),
@@ -471,16 +498,16 @@ const COUNTS_END: [Row<'static>; 17] = [
     TESTED,
     (0x02, &[], 0, 4, NOTHING),
     (0x10, b"\x01abc", 0, 4, (1, NO_BLOCK, &HASH_256_ABC)),
-    (0x04, &[], 0, 4, COUNT_1),
-    (0x03, &[], 0, 2, NOTHING),
+    (0x04, &[], 0, 4, COUNT_1_HASHED),
+    REQUEST_TESTS,
     TESTED,
     TESTED,
     (0x02, &[], 0, 4, NOTHING),
     (0x04, &[], 0, 4, COUNT_0),
     (0x10, b"\x01abc", 0, 4, (1, NO_BLOCK, &HASH_256_ABC)),
-    (0x04, &[], 0, 4, COUNT_1),
+    (0x04, &[], 0, 4, COUNT_1_HASHED),
     (0x07, &[], 0, 1, NOTHING),
-    (0x04, &[], 0, 1, COUNT_0),
+    (0x04, &[], 0, 1, UNTESTED),
 ];
 
 #[test]
@@ -523,11 +550,11 @@ const ALL_EMPTIED: [Row<'static>; 5] = [
     (0x12, &VERIFY_256, 6, 5, NOTHING),
 ];
 
-const RESET: Row<'static> = (0x07, &[], 0, 1, NOTHING);
+pub(crate) const RESET: Row<'static> = (0x07, &[], 0, 1, NOTHING);
 
 // From Init to the user's role, and each slot is empty.
 const AFTER_RESET: [Row<'static>; 22] = [
-    (0x03, &[], 0, 2, NOTHING),
+    REQUEST_TESTS,
     TESTED,
     TESTED,
     (0x02, &[], 0, 3, NOTHING),
@@ -605,14 +632,14 @@ fn keeps_nothing_through_a_reset(rt: HostRuntime) -> Result<(), Fail> {
     Ok(())
 }
 
-// Digests that are wrong from the second one on.
+// The known answer and the first digest are right, and the next are wrong.
 const WRONG_DIGESTS: [Row<'static>; 3] = [
     USER,
     (0x10, b"\x01abc", 0, 5, (1, NO_BLOCK, &HASH_256_ABC)),
     (0x10, b"\x01abc", 0, 5, (1, NO_BLOCK, &HASH_256_ABC_TURNED)),
 ];
 
-// MACs that are always wrong.
+// MACs that are wrong once the known answer was right.
 const WRONG_MACS: [Row<'static>; 5] = [
     OFFICER,
     JEFE_BEGUN,
@@ -624,8 +651,8 @@ const WRONG_MACS: [Row<'static>; 5] = [
 #[test]
 fn hands_on_what_an_engine_answers(rt: HostRuntime) -> Result<(), Fail> {
     for (engine, rows) in [
-        (Faulty::new(0, 1, 0), WRONG_DIGESTS.as_slice()),
-        (Faulty::new(1, 0, 7), WRONG_MACS.as_slice()),
+        (Faulty::new(0, 2, 0), WRONG_DIGESTS.as_slice()),
+        (Faulty::new(1, 1, 7), WRONG_MACS.as_slice()),
     ] {
         let mut dialogue = Dialogue::new(rt.alloc());
         play(&mut dialogue, &UP)?;

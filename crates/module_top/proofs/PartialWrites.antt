@@ -4,7 +4,7 @@ use Rattle.std.proofs.lemmas.List.{take_at, drop_at, take-append-le}
 use Rattle.std.proofs.Math.Seq.{take-add}
 use Rattle.outside.specs.Contents.{Appends}
 use Rattle.outside.proofs.ConsecutiveCalls.{appends_both}
-use Rattle.module_top.specs.Chunks.{AppendsPart}
+use Rattle.module_top.specs.PartialWrites.{AppendsPart}
 
 -- the first failed
 pub part_in_front : (before now : Option (List ℕ)) (front back : List ℕ) → AppendsPart before front now → AppendsPart before (front ++ back) now

@@ -1,14 +1,14 @@
 -- A run of the machine over the bytes of a stream.
-use Rattle.std.specs.Prelude.{◌≡◌, ◌-◌, ℕ, List, [], ◌∷◌, length}
+use Rattle.std.specs.Prelude.{◌≡◌, ◌-◌, ℕ, List, [], ◌∷◌}
 use Rattle.std.specs.Option.{option_map_or}
 use Rattle.std.specs.List.{flat_map}
 use Rattle.engine_core.specs.Calls.{Calls}
 use Rattle.outside.specs.declared.traits.Sample.{Sample}
 use Rattle.module_frames.specs.CommandFrames.{CommandFrame}
-use Rattle.module_frames.specs.ReplyFrames.{ReplyFrame, reply_encoding}
-use Rattle.module_frames.specs.Streams.{ParsesInto, fault_from}
+use Rattle.module_frames.specs.ReplyFrames.{ReplyFrame}
 use Rattle.state_model.specs.MachineState.{MachineState}
 use Rattle.state_model.specs.Step.{step, reply_to}
+use Rattle.module_top.specs.Grammars.{Grammar, IsParse, fault_number}
 use Rattle.module_top.specs.declared.serving.Ended.{Ended}
 use Rattle.module_top.specs.declared.serving.Ended.TheVariants as ended
 
@@ -29,25 +29,25 @@ run_commands calls s events (command ∷ commands) =
     with_reply (reply_to command after) (run_commands calls after.machine after.left commands)
 
 -- the bytes that are written for replies: their encodings joined
-abbrev pub encoded_replies : List ReplyFrame → List ℕ
-encoded_replies replies = flat_map reply_encoding replies
+abbrev pub encoded_replies : Grammar → List ReplyFrame → List ℕ
+encoded_replies grammar replies = flat_map grammar.reply_encoding replies
 
 -- The run from s over these bytes, with these events of noise: they parse into commands and a remainder, and the machine steps over
 -- the commands to t, gives the replies and leaves the events.
-pub record Runs {V : Type 0} (calls : Calls V) (s : MachineState V) (events : List Sample) (bytes : List ℕ) (t : MachineState V) (replies : List ReplyFrame) (left : List Sample) (remainder : List ℕ) : Type 0 where
+pub record Runs {V : Type 0} (grammar : Grammar) (calls : Calls V) (s : MachineState V) (events : List Sample) (bytes : List ℕ) (t : MachineState V) (replies : List ReplyFrame) (left : List Sample) (remainder : List ℕ) : Type 0 where
   pub commands : List CommandFrame
-  pub parses : ParsesInto bytes commands remainder
+  pub parses : IsParse grammar bytes commands remainder
   pub ran : run_commands calls s events commands ≡ record { machine = t; replies = replies; left = left }
 
--- the offset in a stream of these bytes at which the remainder begins that they leave
-abbrev pub remainder_start : List ℕ → List ℕ → ℕ
-remainder_start bytes remainder = length bytes - length remainder
+-- the start from which the faults of the remainder that these bytes leave are counted: for frames, its offset in them
+abbrev pub remainder_start : Grammar → List ℕ → List ℕ → ℕ
+remainder_start grammar bytes remainder = grammar.advance bytes - grammar.advance remainder
 
--- a bad frame at the offset of the first fault that a remainder shows, which begins at this offset; without a fault the other end
-abbrev pub fault_or : ℕ → List ℕ → Ended → Ended
-fault_or start remainder other = option_map_or (λ offset. ended.BadFrame offset) (fault_from start remainder) other
+-- a bad frame with the number of the first fault that a remainder shows; without a fault the other end
+abbrev pub fault_or : Grammar → ℕ → List ℕ → Ended → Ended
+fault_or grammar start remainder other = option_map_or (λ number. ended.BadFrame number) (fault_number grammar start remainder) other
 
--- how a stream ends that leaves this remainder, which begins at this offset
-abbrev pub ending_of : ℕ → List ℕ → Ended
-ending_of start [] = ended.End
-ending_of start (byte ∷ remainder) = fault_or start (byte ∷ remainder) ended.Truncated
+-- how a stream ends that leaves this remainder with this start
+abbrev pub ending_of : Grammar → ℕ → List ℕ → Ended
+ending_of grammar start [] = ended.End
+ending_of grammar start (byte ∷ remainder) = fault_or grammar start (byte ∷ remainder) ended.Truncated

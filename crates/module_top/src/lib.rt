@@ -2,13 +2,19 @@
 #![tactic(auto)]
 
 mod answering;
+mod codec;
 mod faults;
+mod frame_codec;
 mod laws;
+mod limits;
+#[cfg(test)]
+mod run_tests;
 mod running;
 mod serving;
 #[cfg(test)]
 mod tests;
 mod words;
+mod writing;
 
 pub use faults::RunFault;
 pub use laws::has_one_output;

@@ -5,9 +5,11 @@ ghost use Rattle.outside.specs.declared.traits.Sample.{Sample};
 ghost use Rattle.outside.specs.Faults.{FaultCounted};
 ghost use Rattle.state_model.specs.ModuleView.{ModuleView};
 ghost use Rattle.state_model.specs.MachineState.{initial_state};
+ghost use Rattle.module_top.specs.FrameGrammar.{frame_grammar};
 ghost use Rattle.module_top.specs.Serving.{Serves};
 ghost use Rattle.module_top.specs.Program.{form_of, exit_status, IsProgramOutput};
 
+use crate::limits::CHUNK;
 use crate::serving::{Ended, serve};
 use crate::words::{Form, form_of};
 use engine_core::Engine;
@@ -15,9 +17,6 @@ use module_frames::{Frames, Reply};
 use outside::{MemNoise, Sink, Source};
 use state_model::Module;
 use std::alloc::{AllocError, Global};
-
-// How many bytes the program asks its input for at once.
-pub const CHUNK: usize = 65_536;
 
 // The exit status of a faulty command line, and of want of memory.
 const USAGE: u8 = 2;
@@ -31,7 +30,7 @@ fn open_and_serve<E: Engine, S: Source, K: Sink>(
     commands: &mut S,
     replies: &mut K,
 ) -> Result<Ended, AllocError>
-    ensures served { IfOk result (λ ending. (m : ModuleView E) × (left : List Sample) × Serves E.calls ending CHUNK (initial_state engine) m
+    ensures served { IfOk result (λ ending. (m : ModuleView E) × (left : List Sample) × Serves frame_grammar E.calls ending CHUNK (initial_state engine) m
         (record { left = S.left commands.old; gained = K.gained replies.old })
         (record { left = S.left commands.new; gained = K.gained replies.new }) [] left) }
     ensures untouched { OnErr result ((commands.new ≡ commands.old) × (replies.new ≡ replies.old)) }
@@ -94,7 +93,7 @@ pub fn run<E: Engine, S: Source, K: Sink>(
 
     // Else the run over the bytes taken was done: all of it was answered, or up to a failed write a part of it.
     ensures served { result ≢ 2 → result ≢ 7 → (ending : Ended) × (result ≡ exit_status ending) × (m : ModuleView E) × (left : List Sample)
-        × Serves E.calls ending CHUNK (initial_state engine) m
+        × Serves frame_grammar E.calls ending CHUNK (initial_state engine) m
         (record { left = S.left commands.old; gained = K.gained replies.old })
         (record { left = S.left commands.new; gained = K.gained replies.new }) [] left }
 

@@ -1,17 +1,22 @@
 // A stream of commands, served to its end.
-ghost use Rattle.std.specs.Prelude.{◌≡◌, ◌≢◌, ◌≤◌, ◌<◌, [], List, None, IfOk, OnOk, OnErr, length, take, replicate};
+ghost use Rattle.std.specs.Prelude.{◌≡◌, ◌≢◌, ◌≤◌, ◌<◌, ◌+◌, [], List, IfOk, OnOk, OnErr, length, take, replicate};
 ghost use Rattle.outside.specs.Contents.{Consumes, IsAtEnd};
 ghost use Rattle.outside.specs.declared.traits.Sample.{Sample};
 ghost use Rattle.outside.specs.Faults.{FaultCounted};
 ghost use Rattle.outside.specs.Explained.{Explained};
-ghost use Rattle.module_frames.specs.Fragments.{IsIncomplete, new_fragment};
+ghost use Rattle.module_frames.specs.Fragments.{new_fragment};
 ghost use Rattle.module_frames.specs.Replies.{IsCleared};
 ghost use Rattle.state_model.specs.MachineState.{MachineState};
 ghost use Rattle.state_model.specs.Represents.{Represents, IsRepresented};
+ghost use Rattle.module_top.specs.Decoding.{IsReady};
+ghost use Rattle.module_top.specs.FrameGrammar.{frame_grammar};
 ghost use Rattle.module_top.specs.Run.{ending_of};
+ghost use Rattle.module_top.specs.Chunks.{EndServed, EndWriteFailed};
 ghost use Rattle.module_top.specs.Serving.{Serves};
 
 use crate::answering::{ChunkEnd, serve_chunk};
+use crate::codec::Codec;
+use crate::limits::STREAM_MAX;
 use engine_core::Engine;
 use module_frames::{Frames, Reply};
 use outside::{Failed, Noise, Sink, Source};
@@ -35,9 +40,6 @@ pub enum Ended {
     Limit,
 }
 
-/// The most bytes that one call takes.
-pub const STREAM_MAX: u64 = 1 << 40;
-
 // Reads into the front of the chunk, at most so many bytes.
 fn read_some<S: Source>(commands: &mut S, chunk: &mut [u8], most: u64) -> Result<usize, Failed>
     requires chunk { 0 < length chunk.old }
@@ -53,19 +55,56 @@ fn read_some<S: Source>(commands: &mut S, chunk: &mut [u8], most: u64) -> Result
     commands.read(&mut chunk[..room])
 }
 
-// Serves a stream, and leaves what it worked with as it is then.
-fn serve_stream<E: Engine, N: Noise, S: Source, K: Sink>(
+// How a stream without a fault ends, with these bytes held.
+fn end_of<C: Codec>(codec: &C) -> Ended
+    requires { IsReady C.grammar (C.holds codec.now) }
+    ensures { result ≡ ending_of C.grammar (C.holds codec.now).start (C.holds codec.now).bytes }
+{
+    if codec.is_at_boundary() {
+        Ended::End
+    } else {
+        Ended::Truncated
+    }
+}
+
+// Serves what is held where the source has ended: it is read with the bytes that the end stands for.
+fn serve_end<E: Engine, N: Noise, K: Sink, C: Codec>(
+    module: &mut Module<E>,
+    noise: &mut N,
+    replies: &mut K,
+    codec: &mut C,
+    reply: &mut Reply,
+) -> Ended
+    requires ready { IsReady C.grammar (C.holds codec.old) }
+    requires short { (C.holds codec.old).start + length (C.holds codec.old).bytes ≤ STREAM_MAX }
+    ensures ended { result ≢ Ended.WriteFault → Explained (N.left noise.old) (N.left noise.new) (EndServed C.grammar E.calls
+        (record { view = «module».old; gained = K.gained replies.old }) (C.holds codec.old) result (record { view = «module».new; gained = K.gained replies.new })) }
+    ensures write_fault { result ≡ Ended.WriteFault → Explained (N.left noise.old) (N.left noise.new) (EndWriteFailed C.grammar E.calls
+        (record { view = «module».old; gained = K.gained replies.old }) (C.holds codec.old).bytes (record { view = «module».new; gained = K.gained replies.new })) }
+    ensures no_read { result ≢ Ended.ReadFault }
+    ensures fault_counted { result ≡ Ended.WriteFault → FaultCounted (K.faults replies.old) (K.faults replies.new) }
+    ensures faults_unchanged { result ≢ Ended.WriteFault → K.faults replies.new ≡ K.faults replies.old }
+{
+    match serve_chunk(module, noise, replies, codec, reply, C::end_mark()) {
+        ChunkEnd::All => end_of(codec),
+        ChunkEnd::Fault(number) => Ended::BadFrame(number),
+        ChunkEnd::WriteFault => Ended::WriteFault,
+    }
+}
+
+// Serves a stream of any grammar, and leaves what it worked with as it is then. A fault is told as a bad frame with its number.
+fn serve_stream<E: Engine, N: Noise, S: Source, K: Sink, C: Codec>(
     module: &mut Module<E>,
     noise: &mut N,
     commands: &mut S,
     replies: &mut K,
-    frames: &mut Frames,
+    codec: &mut C,
     reply: &mut Reply,
     chunk: &mut [u8],
 ) -> Ended
-    requires new { frames.old ≡ new_fragment }
+    requires new { C.holds codec.old ≡ new_fragment }
     requires chunk { 0 < length chunk.old }
-    ensures served { (s : MachineState E) → Represents «module».old s → Explained (N.left noise.old) (N.left noise.new) (Serves E.calls result (length chunk.old) s «module».new
+    ensures served { (s : MachineState E) → Represents «module».old s → Explained (N.left noise.old) (N.left noise.new) (Serves C.grammar E.calls result (length chunk.old) s «module».new
         (record { left = S.left commands.old; gained = K.gained replies.old })
         (record { left = S.left commands.new; gained = K.gained replies.new })) }
     ensures read_fault { result ≡ Ended.ReadFault → FaultCounted (S.faults commands.old) (S.faults commands.new) }
@@ -77,13 +116,15 @@ fn serve_stream<E: Engine, N: Noise, S: Source, K: Sink>(
     while taken < STREAM_MAX {
         match read_some(commands, chunk, STREAM_MAX - taken) {
             Err(_) => return Ended::ReadFault,
-            Ok(0) => return end_of(frames),
+            Ok(0) => return serve_end(module, noise, replies, codec, reply),
             Ok(count) => {
-                match serve_chunk(module, noise, replies, frames, reply, &chunk[..count]) {
+                match serve_chunk(module, noise, replies, codec, reply, &chunk[..count]) {
                     ChunkEnd::All => {}
-                    ChunkEnd::BadFrame(offset) => return Ended::BadFrame(offset),
+                    ChunkEnd::Fault(number) => return Ended::BadFrame(number),
                     ChunkEnd::WriteFault => return Ended::WriteFault,
                 }
+                // No command's bytes stay in the chunk while the next ones are waited for.
+                chunk[..count].fill(0);
                 taken += count as u64;
             }
         }
@@ -91,23 +132,11 @@ fn serve_stream<E: Engine, N: Noise, S: Source, K: Sink>(
     Ended::Limit
 }
 
-// How a stream without a fault ends, with these bytes held.
-fn end_of(frames: &Frames) -> Ended
-    requires no_fault { frames.now.fault ≡ None }
-    requires incomplete { IsIncomplete frames.now.bytes }
-    ensures { result ≡ ending_of frames.now.start frames.now.bytes }
-{
-    if frames.at_boundary() {
-        Ended::End
-    } else {
-        Ended::Truncated
-    }
-}
-
 /// Serves a stream of commands to its end: reads into the chunk, does each whole command in turn, writes its reply, and clears
 /// both. `frames` is new and the chunk isn't empty. As it returns, frames, reply and chunk are zero.
 ///
-/// The noise is what the commands draw from. No more than 2^40 bytes are asked for, and none once those taken show a fault. Where a call on the source or the sink failed, the answer is that object's.
+/// The noise is what the commands draw from. No more than 2^40 bytes are asked for, and none once those taken show a fault. Where a
+/// call on the source or the sink failed, the answer is that object's.
 pub fn serve<E: Engine, N: Noise, S: Source, K: Sink>(
     module: &mut Module<E>,
     noise: &mut N,
@@ -119,7 +148,7 @@ pub fn serve<E: Engine, N: Noise, S: Source, K: Sink>(
 ) -> Ended
     requires new { frames.old ≡ new_fragment }
     requires chunk { 0 < length chunk.old }
-    ensures served { (s : MachineState E) → Represents «module».old s → Explained (N.left noise.old) (N.left noise.new) (Serves E.calls result (length chunk.old) s «module».new
+    ensures served { (s : MachineState E) → Represents «module».old s → Explained (N.left noise.old) (N.left noise.new) (Serves frame_grammar E.calls result (length chunk.old) s «module».new
         (record { left = S.left commands.old; gained = K.gained replies.old })
         (record { left = S.left commands.new; gained = K.gained replies.new })) }
 

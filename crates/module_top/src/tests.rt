@@ -1,7 +1,7 @@
-// The offset of a fault, the texts of faults, and replies with a payload. Whole runs are tests of the program's crate.
+// The offset of a fault, the texts of faults, and replies with a payload. Whole runs stand in `run_tests`, and those of services in the program's crate.
 ghost use Rattle.std.specs.Prelude.{◌≤◌};
 
-use crate::answering::send;
+use crate::frame_codec::send;
 use crate::{Ended, RunFault, serve};
 use bits_core::{Enabled, Port};
 use engine_core::Shipped;
@@ -38,12 +38,12 @@ const FAULTS: [(&[u8], u64); 9] = [
     (&[0xc5, 0x01, 0x04, 0, 0, 0x01, 0, 0x41], 4),
     (&[0xc4], 0),
     (&[0xc5, 0x01, 0x04, 0xff], 3),
-    (&[0xc5, 0x02, 0x04, 0, 0, 0, 0, 0], 1),
+    (&[0xc5, 0x03, 0x04, 0, 0, 0, 0, 0], 1),
     // The first of two wrong bytes counts.
     (&[0xc5, 0x01, 0x04, 0xff, 0xff, 0xff, 0xff, 0xff], 3),
     (&[0xc5, 0x01, 0x01, 0, 0, 0, 0, 4, 0, 0, 0, 0, 0xc4], 12),
     (
-        &[0xc5, 0x01, 0x01, 0, 0, 0, 0, 4, 0, 0, 0, 0, 0xc5, 0x02],
+        &[0xc5, 0x01, 0x01, 0, 0, 0, 0, 4, 0, 0, 0, 0, 0xc5, 0x03],
         13,
     ),
     (

@@ -1,9 +1,11 @@
 -- The laws of the table. A rule is computed over the whole table, and so holds at each entry, which its numbers find.
-use Rattle.std.proofs.Common.{◌≡◌, ◌⊎◌, ◌↔◌, ◌≤◌, ℕ, Bool, true, false, not, List, [], ◌∷◌, Option, Some, refl, sym, ap, ◌∙◌, inl, inr, arith}
+use Rattle.std.proofs.Common.{◌≡◌, ◌⊎◌, ◌↔◌, ◌≤◌, ℕ, Bool, true, false, not, List, [], ◌∷◌, Option, Some, None, refl, sym, ap, ◌∙◌, inl, inr, arith}
 use Rattle.std.specs.Prelude.{◌&&◌, ◌==◌, find, cond, nat_le}
 use Rattle.std.specs.List.{list_all, list_any}
 use Rattle.std.proofs.lemmas.Option.{same_Some}
 use Rattle.std.proofs.lemmas.Bool.Decides.{nat_tests}
+use Rattle.bits_core.specs.declared.algorithm.Alg.{Alg}
+use Rattle.bits_core.specs.declared.algorithm.Alg.TheVariants.{Sha256, Sha384, Sha512}
 use Rattle.service_table.specs.declared.approval.Approval.{Approval}
 use Rattle.service_table.specs.declared.approval.Approval.TheVariants as approval
 use Rattle.service_table.specs.declared.class.Class.{Class}
@@ -18,6 +20,7 @@ use Rattle.service_table.specs.Services.{class_of, is_permitted, approval_of, ha
 use Rattle.service_table.specs.Laws.{ServicesKeepTheirNumbers, StatesKeepTheirNumbers, StatusesKeepTheirNumbers, is_among, PermitsOnly, AreOnlyIn}
 use Rattle.service_table.specs.Laws.{answering_services, PayloadIsOfTheAnswering, PayloadNeedsARole, CryptographicByNumber, CryptographicNeedsARole, CryptographicIsApproved, OtherIsNotApproved}
 use Rattle.service_table.specs.Laws.{mac_services, ShortMacIsNotApproved, NoMacNoLength, EachIsPermitted, officer_services, ParametersAreTheOfficers, entry_services, EntryGoesOnInEntry, KeysAreTheUsers, StatusIsShown}
+use Rattle.service_table.specs.Laws.{hashing_services, CryptographicIsTested, DigestsAreTested, MacsAreTested}
 use Rattle.service_table.specs.Laws.{off_services, OffPermits, init_services, InitPermits, self_test_services, SelfTestPermits, approved_services, ApprovedPermits, error_services, ErrorPermits}
 
 pub services_keep : ServicesKeepTheirNumbers
@@ -65,6 +68,7 @@ statuses_keep status.NotExportable = refl
 statuses_keep status.BadLength = refl
 statuses_keep status.CheckFailed = refl
 statuses_keep status.AuthFailed = refl
+statuses_keep status.OutOfOrder = refl
 
 first_holds : (one rest : Bool) → (one && rest) ≡ true → one ≡ true
 first_holds true rest h = refl
@@ -248,3 +252,31 @@ approved_permits = permits_only state.Approved approved_services refl
 
 pub error_permits : ErrorPermits
 error_permits = permits_only state.Error error_services refl
+
+-- where a hash function is given, only a service that is not cryptographic has no test
+given_hash : (alg : Alg) (service : Service) → (is_cryptographic service ≡ false) ⊎ ((is_among hashing_services service ≡ true) × (Path (Option Alg) (Some alg) None)) → is_cryptographic service ≡ false
+given_hash alg service (inl other) = other
+given_hash alg service (inr (named, none)) = cc
+
+pub cryptographic_is_tested : CryptographicIsTested
+cryptographic_is_tested service.Hash None = (λ h. inr (refl, refl), λ h. refl)
+cryptographic_is_tested service.Mac None = (λ h. inr (refl, refl), λ h. refl)
+cryptographic_is_tested service.MacVerify None = (λ h. inr (refl, refl), λ h. refl)
+cryptographic_is_tested service.Hash (Some alg) = (λ h. cc, λ h. let no = given_hash alg service.Hash h in cc)
+cryptographic_is_tested service.Mac (Some alg) = (λ h. cc, λ h. let no = given_hash alg service.Mac h in cc)
+cryptographic_is_tested service.MacVerify (Some alg) = (λ h. cc, λ h. let no = given_hash alg service.MacVerify h in cc)
+cryptographic_is_tested _ alg = (λ h. inl refl, λ h. refl)
+
+pub digests_are_tested : DigestsAreTested
+digests_are_tested Sha256 = refl
+digests_are_tested Sha384 = refl
+digests_are_tested Sha512 = refl
+
+pub macs_are_tested : MacsAreTested
+macs_are_tested service.Mac Sha256 h = refl
+macs_are_tested service.Mac Sha384 h = refl
+macs_are_tested service.Mac Sha512 h = refl
+macs_are_tested service.MacVerify Sha256 h = refl
+macs_are_tested service.MacVerify Sha384 h = refl
+macs_are_tested service.MacVerify Sha512 h = refl
+macs_are_tested _ alg h = cc

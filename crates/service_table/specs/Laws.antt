@@ -1,6 +1,8 @@
 -- What the table is for: what holds of all its rows.
-use Rattle.std.specs.Prelude.{◌≡◌, ◌↔◌, ◌⊎◌, ◌==◌, ◌≤◌, ℕ, Bool, true, false, Some, nat_le, List, [], ◌∷◌}
+use Rattle.std.specs.Prelude.{◌≡◌, ◌+◌, ◌↔◌, ◌⊎◌, ◌==◌, ◌≤◌, ℕ, Bool, true, false, Some, None, nat_le, Option, List, [], ◌∷◌}
 use Rattle.std.specs.List.{list_any}
+use Rattle.bits_core.specs.declared.algorithm.Alg.{Alg}
+use Rattle.bits_core.specs.Algorithms.{alg_number}
 use Rattle.service_table.specs.declared.class.Class.TheVariants as class
 use Rattle.service_table.specs.declared.service.Service.{Service}
 use Rattle.service_table.specs.declared.service.Service.TheVariants as service
@@ -9,6 +11,7 @@ use Rattle.service_table.specs.declared.state.State.TheVariants as state
 use Rattle.service_table.specs.declared.status.Status.{Status}
 use Rattle.service_table.specs.Numbers.{service_number, service_numbered, state_number, state_numbered, status_number, status_numbered}
 use Rattle.service_table.specs.Services.{class_of, is_permitted, is_cryptographic, is_approved}
+use Rattle.service_table.specs.KnownAnswers.{test_of}
 
 -- the service is one of these
 abbrev pub is_among : List Service → Service → Bool
@@ -107,6 +110,23 @@ KeysAreTheUsers = AreOnlyIn state.User mac_services
 -- status and version are shown in each state
 abbrev pub StatusIsShown : Type 0
 StatusIsShown = (found : State) → (is_permitted service.ShowStatus found ≡ true) × (is_permitted service.ShowVersion found ≡ true)
+
+-- the services that name a hash function
+abbrev pub hashing_services : List Service
+hashing_services = service.Hash ∷ service.Mac ∷ service.MacVerify ∷ []
+
+-- each cryptographic service needs a test, and no other service: where a service names a hash function, once that is given
+abbrev pub CryptographicIsTested : Type 0
+CryptographicIsTested =
+    (asked : Service) (alg : Option Alg) → (test_of asked alg ≡ None) ↔ ((is_cryptographic asked ≡ false) ⊎ ((is_among hashing_services asked ≡ true) × (alg ≡ None)))
+
+-- the tests of digests are the first three, in the order of the hash functions' numbers
+abbrev pub DigestsAreTested : Type 0
+DigestsAreTested = (alg : Alg) → test_of service.Hash (Some alg) ≡ Some (alg_number alg)
+
+-- and the tests of MACs are the next three, for making and for checking one
+abbrev pub MacsAreTested : Type 0
+MacsAreTested = (asked : Service) (alg : Alg) → is_among mac_services asked ≡ true → test_of asked (Some alg) ≡ Some (3 + alg_number alg)
 
 -- the services that a module which isn't powered permits: to power it on, and to show status and version
 abbrev pub off_services : List Service

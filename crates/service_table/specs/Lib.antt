@@ -1,3 +1,5 @@
 pub mod Numbers
 pub mod Services
+pub mod KnownAnswers
 pub mod Laws
+pub mod Failures

@@ -40,11 +40,13 @@ status_number status.NotExportable = 11
 status_number status.BadLength = 12
 status_number status.CheckFailed = 13
 status_number status.AuthFailed = 14
+status_number status.OutOfOrder = 16
 
 abbrev pub all_statuses : List Status
 all_statuses =
     status.Ok ∷ status.UnknownService ∷ status.NotInState ∷ status.BadBody ∷ status.TestFailed ∷ status.NoiseFault ∷ status.EmptySlot
-    ∷ status.WrongKind ∷ status.WrongDomain ∷ status.Spent ∷ status.OccupiedSlot ∷ status.NotExportable ∷ status.BadLength ∷ status.CheckFailed ∷ status.AuthFailed ∷ []
+    ∷ status.WrongKind ∷ status.WrongDomain ∷ status.Spent ∷ status.OccupiedSlot ∷ status.NotExportable ∷ status.BadLength ∷ status.CheckFailed ∷ status.AuthFailed
+    ∷ status.OutOfOrder ∷ []
 
 abbrev pub status_numbered : ℕ → Option Status
 status_numbered number = find (λ s. status_number s == number) all_statuses

@@ -1,9 +1,9 @@
 // Laws of the table, each computed over all of it, as the contract of a function without a body.
-ghost use Rattle.service_table.specs.Laws.{ServicesKeepTheirNumbers, StatesKeepTheirNumbers, StatusesKeepTheirNumbers, PayloadIsOfTheAnswering, PayloadNeedsARole, CryptographicByNumber, CryptographicNeedsARole, CryptographicIsApproved, OtherIsNotApproved, ShortMacIsNotApproved, NoMacNoLength, EachIsPermitted, ParametersAreTheOfficers, EntryGoesOnInEntry, KeysAreTheUsers, StatusIsShown, OffPermits, InitPermits, SelfTestPermits, ApprovedPermits, ErrorPermits};
+ghost use Rattle.service_table.specs.Laws.{ServicesKeepTheirNumbers, StatesKeepTheirNumbers, StatusesKeepTheirNumbers, PayloadIsOfTheAnswering, PayloadNeedsARole, CryptographicByNumber, CryptographicNeedsARole, CryptographicIsApproved, OtherIsNotApproved, ShortMacIsNotApproved, NoMacNoLength, EachIsPermitted, ParametersAreTheOfficers, EntryGoesOnInEntry, KeysAreTheUsers, StatusIsShown, CryptographicIsTested, DigestsAreTested, MacsAreTested, OffPermits, InitPermits, SelfTestPermits, ApprovedPermits, ErrorPermits};
 
 /// What the table is for. Each service, state and status is found by its number. The services that answer with data, and the
 /// cryptographic ones, are permitted in a role alone; an approved use is one of a cryptographic service, and of a MAC of at least
-/// four bytes. Parameters are the officer's to enter and to zeroise, and keys the user's to use. A module that isn't powered, isn't
+/// four bytes. Each cryptographic service has its known-answer test. Parameters are the officer's to enter and to zeroise, and keys the user's to use. A module that isn't powered, isn't
 /// tested, has no role or is in error permits no more than it says.
 pub fn table_laws()
     ensures services { ServicesKeepTheirNumbers }
@@ -22,6 +22,9 @@ pub fn table_laws()
     ensures entry { EntryGoesOnInEntry }
     ensures users { KeysAreTheUsers }
     ensures shown { StatusIsShown }
+    ensures tested { CryptographicIsTested }
+    ensures digests { DigestsAreTested }
+    ensures macs { MacsAreTested }
     ensures off { OffPermits }
     ensures init { InitPermits }
     ensures self_test { SelfTestPermits }

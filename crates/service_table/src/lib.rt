@@ -1,8 +1,10 @@
-//! The table of services: numbers, states in which each is permitted, classes of output.
+//! The table of services: numbers, states in which each is permitted, classes of output, approved uses and known-answer tests.
 #![tactic(auto)]
 
 mod approval;
 mod class;
+mod failure;
+mod known_answer;
 mod laws;
 mod service;
 mod state;
@@ -12,6 +14,8 @@ mod tests;
 
 pub use approval::{Approval, approval_of, approved, is_cryptographic};
 pub use class::{Class, class_of};
+pub use failure::Failure;
+pub use known_answer::test_of;
 pub use laws::table_laws;
 pub use service::{Service, permitted, service_of};
 pub use state::State;

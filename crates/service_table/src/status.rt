@@ -35,6 +35,8 @@ pub enum Status {
     CheckFailed,
     /// The MAC isn't that of the text.
     AuthFailed,
+    /// The command's sequence number isn't the expected one.
+    OutOfOrder,
 }
 
 impl Status {
@@ -58,6 +60,7 @@ impl Status {
             Status::BadLength => 12,
             Status::CheckFailed => 13,
             Status::AuthFailed => 14,
+            Status::OutOfOrder => 16,
         }
     }
 
@@ -81,6 +84,7 @@ impl Status {
             12 => Some(Status::BadLength),
             13 => Some(Status::CheckFailed),
             14 => Some(Status::AuthFailed),
+            16 => Some(Status::OutOfOrder),
             _ => None,
         }
     }

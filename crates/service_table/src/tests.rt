@@ -1,7 +1,9 @@
 // The table, against a copy that was written by hand.
 use crate::{
     Class, Service, State, Status, approved, class_of, is_cryptographic, permitted, service_of,
+    test_of,
 };
+use bits_core::Alg;
 
 // A row for each service: its number, a letter for each of the states 0 to 7 in which it is permitted, D where it answers with data
 // and N where it doesn't, and the least length of a MAC with which it is approved, where one is.
@@ -68,7 +70,7 @@ fn classes_and_approved_uses_follow_the_table(rt: HostRuntime) {
 }
 
 // Each status with its number.
-const STATUSES: [(u8, Status); 15] = [
+const STATUSES: [(u8, Status); 16] = [
     (0, Status::Ok),
     (1, Status::UnknownService),
     (2, Status::NotInState),
@@ -84,6 +86,7 @@ const STATUSES: [(u8, Status); 15] = [
     (12, Status::BadLength),
     (13, Status::CheckFailed),
     (14, Status::AuthFailed),
+    (16, Status::OutOfOrder),
 ];
 
 #[test]
@@ -93,4 +96,32 @@ fn statuses_have_their_numbers(rt: HostRuntime) {
         assert_eq!(rt; Status::from_number(number), Some(status));
     }
     assert!(rt; Status::from_number(15).is_none());
+    assert!(rt; Status::from_number(17).is_none());
+}
+
+// A known-answer test: the service, the number of the hash function that it names, and the test's number.
+const TESTS: [(Service, u8, Option<u8>); 16] = [
+    (Service::Hash, 0, None),
+    (Service::Hash, 1, Some(1)),
+    (Service::Hash, 2, Some(2)),
+    (Service::Hash, 3, Some(3)),
+    (Service::Mac, 0, None),
+    (Service::Mac, 1, Some(4)),
+    (Service::Mac, 2, Some(5)),
+    (Service::Mac, 3, Some(6)),
+    (Service::MacVerify, 0, None),
+    (Service::MacVerify, 1, Some(4)),
+    (Service::MacVerify, 2, Some(5)),
+    (Service::MacVerify, 3, Some(6)),
+    (Service::PowerOn, 0, None),
+    (Service::TestStep, 1, None),
+    (Service::EntryCommit, 2, None),
+    (Service::ShowSlot, 3, None),
+];
+
+#[test]
+fn services_have_their_known_answer_tests(rt: HostRuntime) {
+    for (service, alg, test) in TESTS {
+        assert_eq!(rt; test_of(service, Alg::from_number(alg)), test);
+    }
 }

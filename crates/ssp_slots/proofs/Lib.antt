@@ -1,1 +1,4 @@
 pub mod WellFormedSlots
+pub mod SlotsPrepared
+pub mod SlotSets
+pub mod Trees

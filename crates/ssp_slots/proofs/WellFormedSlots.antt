@@ -1,5 +1,5 @@
 -- What keeps slots well formed.
-use Rattle.std.proofs.Common.{◌≡◌, ◌≢◌, ℕ, ◌-◌, ◌<◌, ◌≤◌, ◌^◌, Option, Some, None, List, length, get_or, set, replicate, IsTrue, MatchOption, refl, sym, ap, subst, ◌∙◌, arith, inl, inr}
+use Rattle.std.proofs.Common.{◌≡◌, ◌≢◌, ℕ, zero, suc, ◌-◌, ◌<◌, ◌≤◌, ◌^◌, Option, Some, None, List, [], ◌∷◌, length, get_or, set, replicate, IsTrue, MatchOption, refl, sym, ap, subst, ◌∙◌, arith, inl, inr}
 use Rattle.std.proofs.lemmas.Bool.{cases_eq, cases_lt}
 use Rattle.std.proofs.lemmas.List.{ext_get_or, length-replicate, length-set, get_or-set_same, get_or-set_other, get_or-replicate, get_or_append_left, length-take-le}
 use Rattle.std.proofs.Math.Seq.{drop-append_seam, get_or-append_right}
@@ -12,7 +12,7 @@ use Rattle.bits_core.specs.Parameters.{length_fits}
 use Rattle.bits_core.specs.ByteList.{IsBytes, zeros, zero_padded}
 use Rattle.bits_core.proofs.ZeroPadding.{get_or-zeros, length-zero_padded}
 use Rattle.ssp_slots.specs.declared.slot.Slot.{Slot}
-use Rattle.ssp_slots.specs.Slots.{Contents, empty_slot, empty_vault, filled_slot, spent_slot, slot_in, with_slot, filled_in, spent_in, zeroised_in, parameter, HoldsParameter, IsWellFormed, AreWellFormed}
+use Rattle.ssp_slots.specs.Slots.{Contents, empty_slot, empty_vault, filled_slot, spent_slot, slot_in, row_in, with_slot, filled_in, spent_in, zeroised_in, parameter, HoldsParameter, IsWellFormed, AreWellFormed}
 
 -- no parameter is longer than 64 bytes
 pub length_fits-le : (kind : Kind) (domain : Domain) (n : ℕ) → IsTrue (length_fits kind domain n) → n ≤ 64
@@ -69,17 +69,22 @@ slot_in-with_slot_same vault id slot within = get_or-set_same vault.slots id slo
 pub slot_in-with_slot_other : (vault : Contents) (id other : ℕ) (slot : Slot) → other ≢ id → slot_in (with_slot vault id slot) other ≡ slot_in vault other
 slot_in-with_slot_other vault id other slot apart = get_or-set_other vault.slots id other slot empty_slot apart
 
--- laying back what stands at a number changes nothing
-pub laid_back : (vault : Contents) (id : ℕ) → id < length vault.slots → with_slot vault id (slot_in vault id) ≡ vault
-laid_back vault id within =
-    ap (λ (s : List Slot). record vault { slots = s })
-    (ext_get_or empty_slot (set vault.slots id (slot_in vault id)) vault.slots (length-set vault.slots id (slot_in vault id)) (λ k below.
-    elim (cases_eq k id) [
-      | inl same ↦
-          ap (slot_in (with_slot vault id (slot_in vault id))) same ∙ slot_in-with_slot_same vault id (slot_in vault id) within
-          ∙ sym (ap (slot_in vault) same)
-      | inr other ↦ slot_in-with_slot_other vault id k (slot_in vault id) other
-    ]))
+-- what is written into a list of numbers below m leaves it one
+pub set_below : (rows : List ℕ) (id row m : ℕ) → row < m → ((k : ℕ) → get_or rows k 0 < m) → (k : ℕ) → get_or (set rows id row) k 0 < m
+set_below [] id row m below each k = each k
+set_below (x ∷ rows) zero row m below each zero = below
+set_below (x ∷ rows) zero row m below each (suc k) = each (suc k)
+set_below (x ∷ rows) (suc id) row m below each zero = each zero
+set_below (x ∷ rows) (suc id) row m below each (suc k) = set_below rows id row m below (λ j. each (suc j)) k
+
+-- a row among sixteen was written
+pub AreWellFormed-with_row : (vault : Contents) (id row : ℕ) → AreWellFormed vault → row < 2 ^ 16 → AreWellFormed (record vault { rows = set vault.rows id row })
+AreWellFormed-with_row vault id row before below = record {
+  sixteen = before.sixteen;
+  each = before.each;
+  sixteen_rows = length-set vault.rows id row ∙ before.sixteen_rows;
+  each_row = set_below vault.rows id row (2 ^ 16) below before.each_row;
+}
 
 -- one slot among sixteen was written
 pub AreWellFormed-with_slot : (vault : Contents) (id : ℕ) (slot : Slot) → AreWellFormed vault → IsWellFormed slot → AreWellFormed (with_slot vault id slot)
@@ -95,6 +100,8 @@ AreWellFormed-with_slot vault id slot before well =
             subst Well (sym here) well
         | inr other ↦ subst Well (sym (slot_in-with_slot_other vault id k slot other)) (before.each k below)
       ];
+      sixteen_rows = before.sixteen_rows;
+      each_row = before.each_row;
     }
 
 -- one use of a slot was spent
@@ -110,15 +117,22 @@ AreWellFormed-filled vault id header bytes before fits uses are_bytes =
 
 -- a slot was zeroised
 pub AreWellFormed-zeroised : (vault : Contents) (id : ℕ) → AreWellFormed vault → AreWellFormed (zeroised_in vault id)
-AreWellFormed-zeroised vault id before = AreWellFormed-with_slot vault _ empty_slot before refl
+AreWellFormed-zeroised vault id before =
+    AreWellFormed-with_row (with_slot vault id empty_slot) id 0 (AreWellFormed-with_slot vault id empty_slot before refl) (omega arith)
 
--- sixteen empty slots
+-- a row of zeros is empty at each number
+pub empty_row : (id : ℕ) → row_in empty_vault id ≡ 0
+empty_row id = get_or-zeros 16 id
+
+-- sixteen empty slots and rows
 pub AreWellFormed-empty : AreWellFormed empty_vault
 AreWellFormed-empty =
     let Well : Slot → Type 0 = λ s. IsWellFormed s in
     record {
       sixteen = refl;
       each = λ k below. subst Well (sym (get_or-replicate 16 k empty_slot empty_slot below)) refl;
+      sixteen_rows = refl;
+      each_row = λ k. omega (arith, empty_row k);
     }
 
 -- each of sixteen empty slots is empty

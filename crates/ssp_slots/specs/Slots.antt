@@ -1,6 +1,6 @@
 -- A slot of the vault, what it holds, and when it is well formed: this project's own way to store and zeroise sensitive security
 -- parameters (ISO/IEC 19790:2012, 7.9.6 and 7.9.7).
-use Rattle.std.specs.Prelude.{◌≡◌, ◌≢◌, ℕ, ◌-◌, ◌^◌, ◌<◌, Some, None, List, length, take, drop, IsTrue, is_some, MatchOption, replicate, slice_index_or, slice_set}
+use Rattle.std.specs.Prelude.{◌≡◌, ◌≢◌, ℕ, ◌-◌, ◌^◌, ◌<◌, Some, None, List, length, take, drop, IsTrue, is_some, MatchOption, replicate, slice_index, slice_index_or, slice_set}
 use Rattle.std.specs.Option.{option_map}
 use Rattle.bits_core.specs.declared.parameter.Header.{Header}
 use Rattle.bits_core.specs.Parameters.{length_fits}
@@ -44,15 +44,20 @@ one_use_less header = record header { uses = header.uses - 1 }
 abbrev pub spent_slot : Slot → Slot
 spent_slot slot = record slot { header = option_map one_use_less slot.header }
 
--- what a vault keeps
+-- what a vault keeps: its slots, and beside each a row, which says what the slot's parameter was made from (Ancestry)
 pub record Contents : Type 0 where
   pub slots : List Slot
+  pub rows : List ℕ
 
 -- the slot with a number
 abbrev pub slot_in : Contents → ℕ → Slot
 slot_in vault id = slice_index_or vault.slots id empty_slot
 
--- the vault with this slot at a number, and all others as they were
+-- the row of the slot with a number
+abbrev pub row_in : Contents → ℕ → ℕ
+row_in vault id = slice_index vault.rows id
+
+-- the vault with this slot at a number, and all others as they were; the rows stay
 abbrev pub with_slot : Contents → ℕ → Slot → Contents
 with_slot vault id slot = record vault { slots = slice_set vault.slots id slot }
 
@@ -64,23 +69,25 @@ filled_in vault id header bytes = with_slot vault id (filled_slot header bytes)
 abbrev pub spent_in : Contents → ℕ → Contents
 spent_in vault id = with_slot vault id (spent_slot (slot_in vault id))
 
--- the vault after a slot was zeroised
+-- the vault after a slot was zeroised: the slot and its row are empty
 abbrev pub zeroised_in : Contents → ℕ → Contents
-zeroised_in vault id = with_slot vault id empty_slot
+zeroised_in vault id = record { slots = slice_set vault.slots id empty_slot; rows = slice_set vault.rows id 0 }
 
--- sixteen empty slots
+-- sixteen empty slots and rows
 abbrev pub empty_vault : Contents
-empty_vault = record { slots = replicate 16 empty_slot }
+empty_vault = record { slots = replicate 16 empty_slot; rows = zeros 16 }
 
 -- the vault after all slots were zeroised
 abbrev pub zeroised_all : Contents
 zeroised_all = empty_vault
 
--- there are sixteen slots, and each is well formed
+-- there are sixteen slots, and each is well formed; and sixteen rows, each of them a set of the sixteen slots
 pub record AreWellFormed (vault : Contents) : Type 0 where
   pub sixteen : length vault.slots ≡ 16
   pub each : (id : ℕ) → id < 16 → IsWellFormed (slot_in vault id)
+  pub sixteen_rows : length vault.rows ≡ 16
+  pub each_row : (id : ℕ) → row_in vault id < 2 ^ 16
 
--- no slot but the one with this number has changed
+-- no slot but the one with this number has changed, and no row but that slot's
 abbrev pub OthersStay : Contents → Contents → ℕ → Type 0
-OthersStay before after id = (other : ℕ) → other ≢ id → slot_in after other ≡ slot_in before other
+OthersStay before after id = (other : ℕ) → other ≢ id → (slot_in after other ≡ slot_in before other) × (row_in after other ≡ row_in before other)

@@ -1,9 +1,11 @@
-//! Sixteen slots for sensitive security parameters, wiped in place.
+//! Sixteen slots for sensitive security parameters, wiped in place, with what is prepared of each key and what each was made from.
 #![tactic(auto)]
 
+mod prepared_keys;
 mod shown;
 mod slot;
 mod slot_fault;
+mod slot_set;
 mod vault;
 
 pub use shown::Shown;

@@ -3,6 +3,8 @@ ghost use Rattle.std.specs.Prelude.{◌≡◌, length, OnOk, OnErr, IsTrue};
 ghost use Rattle.bits_core.specs.Parameters.{length_fits};
 ghost use Rattle.ssp_slots.specs.Slots.{empty_slot, filled_slot, spent_slot, IsWellFormed};
 ghost use Rattle.ssp_slots.specs.Refusals.{Answers, source_fault, export_fault};
+ghost use Rattle.ssp_slots.specs.PreparedKeys.{IsPreparedFor};
+ghost use Rattle.gcm_mode.specs.declared.prepared_key.Prepared.{Prepared};
 
 use crate::SlotFault;
 use bits_core::{Domain, Header, Kind, wipe};
@@ -57,6 +59,7 @@ impl Slot {
         ensures spent { OnOk result (self.new ≡ spent_slot self.old) }
         ensures unchanged { OnErr result (self.new ≡ self.old) }
         ensures well_formed { IsWellFormed self.new }
+        ensures same_key { (key : Prepared) → IsPreparedFor self.old key → IsPreparedFor self.new key }
     {
         let Some(header) = self.header else {
             return Err(SlotFault::EmptySlot);

@@ -16,18 +16,22 @@ use Rattle.outside.specs.declared.traits.Sample.{Sample}
 use Rattle.module_frames.specs.Requests.{RequestValue, CryptographicRequest, request_of, service_for, cryptographic_service_for}
 use Rattle.module_frames.specs.Requests as request
 use Rattle.module_frames.specs.PublicState.{no_block}
+use Rattle.module_frames.specs.PublicEffects.{sequence_taken, use_counted}
 use Rattle.engine_core.specs.Calls.{Calls}
 use Rattle.crypto_services.specs.AtSlots.{Answer, slot_at, on_source, source_by, success, refusal}
 use Rattle.crypto_services.specs.Services.{is_leftmost, verified}
 use Rattle.state_model.specs.Permission.{IsPermittedIn}
 use Rattle.state_model.specs.Entries.{with_piece, entry_length}
 use Rattle.state_model.specs.MachineState.{MachineState, state_of}
-use Rattle.state_model.specs.Management.{Stepped, refused, done}
-use Rattle.state_model.specs.Cryptographic.{service_at}
-use Rattle.state_model.specs.Step.{step, dispatch, dispatch_request, perform}
+use Rattle.state_model.specs.Management.{Stepped, refused, done, with_public, with_tested, after_test, test_step}
+use Rattle.state_model.specs.SelfTesting.{Tested, test_due, test_for, due_at_first_use}
+use Rattle.state_model.specs.Cryptographic.{service_at, ready_after, served, cryptographic_step}
+use Rattle.state_model.specs.Step.{dispatch, dispatch_request, perform}
 use Rattle.state_model.specs.Laws.{DataNeedsARole}
 use Rattle.state_model.proofs.Permitted.{role_for_hash}
 use Rattle.state_model.proofs.Keeping.{hash_for_cryptographic}
+use Rattle.state_model.proofs.Sequences.{by_order}
+use Rattle.state_model.proofs.Testing.{tested_by}
 use Rattle.state_model.proofs.RequestReading.{IsRead, request_read}
 
 -- an answer with data is one of a service of class data that was done
@@ -63,14 +67,26 @@ either_none : {V : Type 0} (first : Bool) (a b : Stepped V) → a.payload ≡ []
 either_none true a b h k = h
 either_none false a b h k = k
 
+test_gives : {V : Type 0} (calls : Calls V) (s : MachineState V) (events : List Sample) → Gives service.TestStep s (test_step calls s events)
+test_gives {V} calls s events =
+    let Given : Tested V → Type 0 = λ t. Gives service.TestStep s (after_test s (with_tested s.shared t) t.judgement.refused events) in
+    tested_by calls s.shared.engine s.shared.public s.shared.tests_passed Given (λ more engine includes some. absurd (some refl)) (λ t engine some. absurd (some refl)) (test_due s.shared.public.tests_done)
+
+cryptographic_gives : {V : Type 0} (calls : Calls V) (s : MachineState V) (events : List Sample) (what : CryptographicRequest) → is_permitted (cryptographic_service_for what) (state_of s) ≡ true
+    → Gives (cryptographic_service_for what) s (cryptographic_step calls s events what)
+cryptographic_gives {V} calls s events what allowed =
+    let Given : Tested V → Type 0 = λ t. Gives (cryptographic_service_for what) s (served calls s (ready_after s.shared t events) what) in
+    tested_by calls s.shared.engine (use_counted s.shared.public) s.shared.tests_passed Given (λ more engine includes some.
+    let gives = service_gives calls engine [] s.slots what some in
+    (gives.0, role_for_hash (state_of s) (hash_for_cryptographic what (state_of s) allowed), gives.1)) (λ t engine some. absurd (some refl))
+    (due_at_first_use s.shared.tests_passed (test_for what))
+
 perform_gives : {V : Type 0} (calls : Calls V) (s : MachineState V) (events : List Sample) (what : RequestValue) → IsPermittedIn what (state_of s) → Gives (service_for what) s (perform calls s events what)
-perform_gives calls s events (request.Cryptographic what) allowed = λ some.
-    let gives = service_gives calls s.shared.engine [] s.slots what some in
-    (gives.0, role_for_hash (state_of s) (hash_for_cryptographic what (state_of s) allowed), gives.1)
+perform_gives calls s events (request.Cryptographic what) allowed = cryptographic_gives calls s events what allowed
 perform_gives calls s events (request.EntryBytes piece) allowed = λ some.
     absurd (some (either_none (nat_le (s.entry.filled + length piece) (entry_length s.entry)) (done (record s { entry = with_piece s.entry piece }) no_block events) (refused s status.BadLength events) refl refl))
 perform_gives calls s events (request.PowerOn period) allowed = λ some. absurd (some refl)
-perform_gives calls s events request.TestStep allowed = λ some. absurd (some refl)
+perform_gives calls s events request.TestStep allowed = test_gives calls s events
 perform_gives calls s events request.RequestTests allowed = λ some. absurd (some refl)
 perform_gives calls s events request.ShowStatus allowed = λ some. absurd (some refl)
 perform_gives calls s events request.ShowVersion allowed = λ some. absurd (some refl)
@@ -103,5 +119,10 @@ dispatched_gives calls s events (Some found) body some =
     (gives.0, gives.1, (found, refl, gives.2))
 
 pub data_in_roles : {V : Type 0} (calls : Calls V) → DataNeedsARole calls
-unfolding step
-data_in_roles calls s events command = dispatched_gives calls s events (service_numbered command.service) command.body
+data_in_roles {V} calls s events command =
+    let Gives : Stepped V → Type 0 = λ after. after.payload ≢ []
+    → (after.status ≡ status.Ok) × ((state_of s ≡ state.Officer) ⊎ (state_of s ≡ state.User))
+    × ((found : Service) × (service_numbered command.service ≡ Some found) × (class_of found ≡ class.Payload)) in
+    by_order calls s events command Gives (λ _. dispatched_gives calls s events (service_numbered command.service) command.body)
+    (λ number _ _. dispatched_gives calls (with_public s (sequence_taken s.shared.public)) events (service_numbered command.service) command.body)
+    (λ number _ _ some. absurd (some refl))

@@ -1,13 +1,17 @@
+pub mod Testing
 pub mod Permitted
 pub mod PublicRules
 pub mod EntryRules
 pub mod Rules
 pub mod Representing
 pub mod Serving
+pub mod Judging
 pub mod Order
+pub mod Sequences
 pub mod RequestReading
 pub mod Keeping
 pub mod Statuses
 pub mod Replying
 pub mod DataInRoles
 pub mod Zeroising
+pub mod Numbering

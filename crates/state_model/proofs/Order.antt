@@ -1,5 +1,5 @@
--- The order of refusals, one at a time.
-use Rattle.std.proofs.Common.{◌≡◌, ℕ, List, true, false, Some, None, [], ap, refl}
+-- The order of refusals of a command that comes in its order, one at a time.
+use Rattle.std.proofs.Common.{◌≡◌, ℕ, List, true, false, Some, None, [], refl}
 use Rattle.service_table.specs.declared.service.Service.{Service}
 use Rattle.service_table.specs.declared.status.Status.{Status}
 use Rattle.service_table.specs.declared.status.Status.TheVariants as status
@@ -13,23 +13,20 @@ use Rattle.engine_core.specs.Calls.{Calls}
 use Rattle.state_model.specs.ModuleView.{ModuleView}
 use Rattle.state_model.specs.MachineState.{MachineState, state_of}
 use Rattle.state_model.specs.Management.{refused}
-use Rattle.state_model.specs.Step.{step, dispatch_request}
+use Rattle.state_model.specs.Step.{dispatch, dispatch_request}
 use Rattle.state_model.specs.Represents.{Represents, IsServiceResult}
 
-pub step_unknown : {V : Type 0} (calls : Calls V) (s : MachineState V) (events : List Sample) (command : CommandFrame) → service_numbered command.service ≡ None
-    → step calls s events command ≡ refused s status.UnknownService events
-unfolding step
-step_unknown calls s events command none = rw none refl
+pub dispatch_unknown : {V : Type 0} (calls : Calls V) (s : MachineState V) (events : List Sample) (command : CommandFrame) → service_numbered command.service ≡ None
+    → dispatch calls s events (service_numbered command.service) command.body ≡ refused s status.UnknownService events
+dispatch_unknown calls s events command none = rw none refl
 
-pub step_not_permitted : {V : Type 0} (calls : Calls V) (s : MachineState V) (events : List Sample) (command : CommandFrame) (found : Service) → service_numbered command.service ≡ Some found
-    → is_permitted found (state_of s) ≡ false → step calls s events command ≡ refused s status.NotInState events
-unfolding step
-step_not_permitted calls s events command found known refusal = rw (known, refusal) refl
+pub dispatch_not_permitted : {V : Type 0} (calls : Calls V) (s : MachineState V) (events : List Sample) (command : CommandFrame) (found : Service) → service_numbered command.service ≡ Some found
+    → is_permitted found (state_of s) ≡ false → dispatch calls s events (service_numbered command.service) command.body ≡ refused s status.NotInState events
+dispatch_not_permitted calls s events command found known refusal = rw (known, refusal) refl
 
-pub step_requested : {V : Type 0} (calls : Calls V) (s : MachineState V) (events : List Sample) (command : CommandFrame) (found : Service) → service_numbered command.service ≡ Some found
-    → is_permitted found (state_of s) ≡ true → step calls s events command ≡ dispatch_request calls s events (request_of found command.body)
-unfolding step
-step_requested calls s events command found known leave = rw (known, leave) refl
+pub dispatch_requested : {V : Type 0} (calls : Calls V) (s : MachineState V) (events : List Sample) (command : CommandFrame) (found : Service) → service_numbered command.service ≡ Some found
+    → is_permitted found (state_of s) ≡ true → dispatch calls s events (service_numbered command.service) command.body ≡ dispatch_request calls s events (request_of found command.body)
+dispatch_requested calls s events command found known leave = rw (known, leave) refl
 
 -- a refusal leaves the module, an empty block and no payload
 pub refused_leaves : {V : Type 0} (m : ModuleView V) (s : MachineState V) (events : List Sample) (why : Status) (block payload : List ℕ) → Represents m s

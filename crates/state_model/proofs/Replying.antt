@@ -14,6 +14,7 @@ use Rattle.state_model.specs.Represents.{machine_of, IsServiceResult}
 abbrev pub reply_by : {V : Type 0} → CommandFrame → MachineState V → Bool → Status → List ℕ → List ℕ → ReplyFrame
 reply_by command t approved why block payload = record {
   service = command.service;
+  sequence = command.sequence;
   status = why;
   state = state_of t;
   approved = approved;

@@ -1,5 +1,5 @@
 -- A module and the machine that it represents.
-use Rattle.std.proofs.Common.{◌≡◌, ◌≢◌, ℕ, List, refl, sym, ap, subst, ◌∙◌}
+use Rattle.std.proofs.Common.{◌≡◌, ◌≢◌, ℕ, List, refl, sym, subst}
 use Rattle.noise_health.specs.Counts.{Counts}
 use Rattle.service_table.specs.declared.state.State.TheVariants as state
 use Rattle.state_model.specs.ModuleView.{ModuleView}

@@ -1,15 +1,12 @@
 -- What each service does keeps the rules.
-use Rattle.std.proofs.Common.{◌≡◌, ◌≢◌, ◌≤◌, ◌<◌, ◌^◌, ◌+◌, ◌∙◌, ◌++◌, ℕ, zero, suc, List, [], Bool, true, false, Option, Some, None, length, refl, subst, ap, arith, if◌then◌else◌, take, drop}
-use Rattle.std.specs.Prelude.{◌==◌, not, nat_le, IsTrue, MatchOption, IfSome, bytes_eq}
+use Rattle.std.proofs.Common.{◌≡◌, ◌≢◌, ◌≤◌, ◌<◌, ◌^◌, ◌+◌, ℕ, zero, suc, List, [], Bool, true, false, Option, Some, None, length, refl, subst, arith, if◌then◌else◌}
+use Rattle.std.specs.Prelude.{◌==◌, not, nat_le, nat_lt, IsTrue, IfSome, bytes_eq}
 use Rattle.std.proofs.lemmas.Bool.Decides.{nat_tests}
 use Rattle.bits_core.specs.ByteList.{IsBytes}
 use Rattle.bits_core.specs.Parameters.{length_fits}
-use Rattle.bits_core.specs.declared.parameter.Header.{Header}
 use Rattle.bits_core.specs.declared.parameter.Kind.{Kind}
 use Rattle.bits_core.proofs.Bytes.{IsBytes-take}
-use Rattle.noise_health.specs.Signals.{health_signal}
 use Rattle.service_table.specs.declared.service.Service.TheVariants as service
-use Rattle.service_table.specs.declared.state.State.{State}
 use Rattle.service_table.specs.declared.state.State.TheVariants as state
 use Rattle.service_table.specs.declared.status.Status.{Status}
 use Rattle.service_table.specs.declared.status.Status.TheVariants as status
@@ -17,61 +14,138 @@ use Rattle.service_table.specs.Services.{is_permitted}
 use Rattle.outside.specs.declared.traits.Sample.{Sample}
 use Rattle.module_frames.specs.declared.public_state.PublicState.{PublicState}
 use Rattle.module_frames.specs.PublicState.{no_block}
-use Rattle.module_frames.specs.PublicEffects.{use_counted, is_period_over, sent_to_tests}
+use Rattle.module_frames.specs.PublicEffects.{sequence_taken, use_counted, is_period_over, sent_to_tests, has_failed, role_state}
+use Rattle.service_table.specs.declared.failure.Failure.TheVariants as failure
+use Rattle.self_tests.specs.declared.numbers.Test.{Test}
+use Rattle.self_tests.specs.declared.numbers.Test.TheVariants as test
+use Rattle.self_tests.specs.Tests.{number_of}
+use Rattle.self_tests.specs.TestSet.{has_test, with_test}
+use Rattle.self_tests.specs.KnownAnswers.{answers_right, engine_after}
+use Rattle.state_model.specs.SelfTesting.{Tested, tested, judgement}
+use Rattle.state_model.proofs.Testing.{Includes, with_test_includes, has_mac, has_generator, is_failure, passed_more, passed_in_use, use_of_passed, none_done}
 use Rattle.ssp_slots.specs.declared.slot.Slot.{Slot}
 use Rattle.ssp_slots.specs.declared.slot_fault.SlotFault.{SlotFault}
 use Rattle.ssp_slots.specs.Refusals.{source_fault, vacancy_fault}
-use Rattle.ssp_slots.specs.Slots.{Contents, empty_slot, spent_slot, filled_slot, IsWellFormed, AreWellFormed, slot_in}
+use Rattle.ssp_slots.specs.Slots.{Contents, empty_slot, spent_slot, filled_slot, IsWellFormed, AreWellFormed, slot_in, zeroised_in, zeroised_all}
 use Rattle.ssp_slots.specs.Slots.{IsWellFormed as IsWellFormedSlot}
-use Rattle.ssp_slots.proofs.WellFormedSlots.{AreWellFormed-with_slot, AreWellFormed-empty, IsWellFormed-spent, IsWellFormed-filled}
+use Rattle.ssp_slots.proofs.WellFormedSlots.{AreWellFormed-with_slot, AreWellFormed-zeroised, AreWellFormed-empty, IsWellFormed-spent, IsWellFormed-filled}
 use Rattle.engine_core.specs.Calls.{Calls}
-use Rattle.crypto_services.specs.AtSlots.{Answer, SlotResult, SlotsResult, slot_at, on_slot, on_source, source, source_by, under_key, unless_fault, refused_at}
-use Rattle.state_model.specs.declared.entry.Entry.{Entry}
+use Rattle.crypto_services.specs.AtSlots.{Answer, SlotResult, slot_at, on_slot, on_source, source, source_by, under_key, unless_fault}
 use Rattle.state_model.specs.declared.entry.Target.{Target}
-use Rattle.state_model.specs.Entries.{no_entry, begun_entry, with_piece, entry_length, IsEntered, IsUnderway}
+use Rattle.state_model.specs.Entries.{with_piece, entry_length, IsEntered}
 use Rattle.state_model.specs.Commit.{commit_at, unless, entered, after_check, check_value}
-use Rattle.state_model.specs.MachineState.{MachineState, Shared, IsReturn, IsPublicState, AreHealthy, state_of, vault_of, no_slots}
+use Rattle.state_model.specs.MachineState.{MachineState, Shared, IsReturn, IsPublicState, HavePassed, ArePassed, AreHealthy, state_of, vault_of, with_vault}
 use Rattle.state_model.specs.MachineState.{IsWellFormed as IsMachine}
-use Rattle.state_model.specs.Management.{refused, done, with_public, power_on, request_tests, test_step, select_role, reset, entry_begin, entry_bytes, entry_over, entry_commit, committed, with_slots, zeroise, zeroise_all}
+use Rattle.state_model.specs.Management.{refused, done, with_public, with_tested, after_test, power_on, request_tests, test_step, select_role, reset, entry_begin, entry_bytes, entry_over, entry_commit, committed, with_slots, zeroise, zeroise_all}
 use Rattle.state_model.specs.Cryptographic.{after_slots}
-use Rattle.state_model.proofs.Permitted.{return_for_request_tests, not_entering_for_request_tests, not_failed_for_request_tests, return_for_select_role, return_is_not_entry, return_is_faultless, return_for_hash}
-use Rattle.state_model.proofs.PublicRules.{powered_on_kept, tests_requested_kept, test_done_kept, role_selected_kept, role_is_of_use, was_reset_kept, entry_begun_kept, entry_ended_kept, used_kept}
+use Rattle.state_model.proofs.Permitted.{not_entering_for_request_tests, not_failed_for_request_tests, return_for_select_role, return_is_not_entry, return_is_faultless, return_for_hash}
+use Rattle.state_model.proofs.PublicRules.{sequence_taken_kept, powered_on_kept, tests_requested_kept, test_done_by, failed_kept, failed_use_kept, failed_is_not_over, role_selected_kept, role_is_of_use, was_reset_kept, entry_begun_kept, entry_ended_kept, used_kept}
 use Rattle.state_model.proofs.EntryRules.{underway_begun, underway_with_piece, underway_target}
 
 -- another public state, from a state in which nothing failed and nothing is entered to such a one
-quiet_kept : {V : Type 0} (s : MachineState V) (public : PublicState) (tests : ℕ) → IsMachine s → IsPublicState public → state_of s ≢ state.Error → state_of s ≢ state.Entry
-    → public.state ≢ state.Entry → (let t : MachineState V = record s { shared = record s.shared { public = public; tests_passed = tests } } in IsMachine t)
-quiet_kept s public tests rules kept healthy quiet still = record {
+quiet_kept : {V : Type 0} (s : MachineState V) (public : PublicState) (tests : ℕ) → IsMachine s → IsPublicState public → ArePassed public.state public.tests_done tests → state_of s ≢ state.Error
+    → state_of s ≢ state.Entry → public.state ≢ state.Entry → (let t : MachineState V = record s { shared = record s.shared { public = public; tests_passed = tests } } in IsMachine t)
+quiet_kept s public tests rules kept passed healthy quiet still = record {
   public = kept;
+  passed = passed;
   healthy = λ _. rules.healthy healthy;
   slots = rules.slots;
   entering = λ e. absurd (still e);
   wiped = λ _. rules.wiped quiet;
 }
 
+pub number_taken_kept : {V : Type 0} (s : MachineState V) → IsMachine s → IsMachine (with_public s (sequence_taken s.shared.public))
+number_taken_kept s rules =
+    record { public = sequence_taken_kept s.shared.public rules.public; passed = rules.passed; healthy = rules.healthy; slots = rules.slots; entering = rules.entering; wiped = rules.wiped }
+
 pub power_on_kept : {V : Type 0} (s : MachineState V) (period : ℕ) → IsMachine s → state_of s ≡ state.Off → period ≤ 1000000 → IsMachine (power_on s period)
 power_on_kept s period rules off small =
-    quiet_kept s _ s.shared.tests_passed rules (powered_on_kept s.shared.public period rules.public off small) (λ e. cc) (λ e. cc) (λ e. cc)
+    quiet_kept s _ s.shared.tests_passed rules (powered_on_kept s.shared.public period rules.public off small) tt (λ e. cc) (λ e. cc) (λ e. cc)
 
 pub request_tests_kept : {V : Type 0} (s : MachineState V) → IsMachine s → is_permitted service.RequestTests (state_of s) ≡ true → IsMachine (request_tests s)
 request_tests_kept s rules allowed =
-    quiet_kept s _ 0 rules (tests_requested_kept s.shared.public rules.public allowed) (not_failed_for_request_tests (state_of s) allowed)
+    quiet_kept s _ 0 rules (tests_requested_kept s.shared.public rules.public allowed) (none_done 0) (not_failed_for_request_tests (state_of s) allowed)
     (not_entering_for_request_tests (state_of s) allowed) (λ e. cc)
 
-after_test : (public : PublicState) (more : Bool) → public.state ≡ state.SelfTest → IsReturn public.return_state
-    → (let next : PublicState = if more then record public { tests_done = public.tests_done + 1 } else record public { state = public.return_state; return_state = state.Off; tests_done = 0 } in next.state ≢ state.Entry)
-after_test public true testing use' = λ e. cc
-after_test public false testing use' = return_is_not_entry public.return_state use'
+-- what was tested, and an engine
+abbrev with_judged : {V : Type 0} → MachineState V → PublicState → ℕ → V → MachineState V
+with_judged s public tests engine = record s { shared = record s.shared { public = public; tests_passed = tests; engine = engine } }
 
-pub test_step_kept : {V : Type 0} (s : MachineState V) → IsMachine s → state_of s ≡ state.SelfTest → IsMachine (test_step s)
-test_step_kept s rules testing =
-    quiet_kept s _ s.shared.tests_passed rules (test_done_kept s.shared.public rules.public testing) (λ e. cc) (λ e. cc)
-    (after_test s.shared.public _ testing (rules.public.testing testing).0)
+-- a test passed, or there is none, and the next is due or none is any more
+passed_kept : {V : Type 0} (s : MachineState V) (more : Bool) (tests : ℕ) (engine : V) → nat_lt s.shared.public.tests_done 2 ≡ more → IsMachine s → state_of s ≡ state.SelfTest
+    → (more ≡ true → has_test tests test.HmacSha256 ≡ true) → (more ≡ false → HavePassed tests)
+    → (let next : PublicState = if more then record s.shared.public { tests_done = s.shared.public.tests_done + 1 } else record s.shared.public { state = s.shared.public.return_state; return_state = state.Off; tests_done = 0 } in
+    IsMachine (with_judged s next tests engine))
+passed_kept s true tests engine is rules testing first last = record {
+  public = test_done_by s.shared.public true is rules.public testing;
+  passed = rw testing (λ some. first refl);
+  healthy = λ _. rules.healthy (λ e. cc);
+  slots = rules.slots;
+  entering = λ e. cc;
+  wiped = λ _. rules.wiped (λ e. cc);
+}
+passed_kept s false tests engine is rules testing first last = record {
+  public = test_done_by s.shared.public false is rules.public testing;
+  passed = use_of_passed s.shared.public.return_state 0 tests (rules.public.testing testing).0 (last refl);
+  healthy = λ _. rules.healthy (λ e. cc);
+  slots = rules.slots;
+  entering = λ e. absurd (return_is_not_entry s.shared.public.return_state (rules.public.testing testing).0 e);
+  wiped = λ _. rules.wiped (λ e. cc);
+}
+
+-- a test failed
+failed_test_kept : {V : Type 0} (s : MachineState V) (t : Test) (engine : V) → IsMachine s → state_of s ≡ state.SelfTest
+    → IsMachine (with_judged s (has_failed (failure.KnownAnswer (number_of t)) s.shared.public) s.shared.tests_passed engine)
+failed_test_kept s t engine rules testing = record {
+  public = failed_kept s.shared.public (failure.KnownAnswer (number_of t)) rules.public (is_failure t);
+  passed = tt;
+  healthy = λ other. absurd (other refl);
+  slots = rules.slots;
+  entering = λ e. cc;
+  wiped = λ _. rules.wiped (λ e. cc);
+}
+
+pub test_step_kept : {V : Type 0} (calls : Calls V) (s : MachineState V) (events : List Sample) → IsMachine s → state_of s ≡ state.SelfTest → IsMachine (test_step calls s events).machine
+test_step_kept {V} calls s events rules testing = by_count (n == 0) refl (n == 1) refl (nat_lt n 2) refl
+  where
+    n : ℕ
+    n = s.shared.public.tests_done
+
+    most : n ≤ 2
+    most = (rules.public.testing testing).1
+
+    -- the tests of the first and the last step, right or wrong
+    first : (right : Bool) → nat_lt n 2 ≡ true → (let judged = judgement s.shared.public s.shared.tests_passed test.HmacSha256 right in
+        IsMachine (after_test s (with_tested s.shared (record { judgement = judged; engine = engine_after calls s.shared.engine test.HmacSha256 })) judged.refused events).machine)
+    first true more = rw more (passed_kept s true (with_test s.shared.tests_passed test.HmacSha256) _ more rules testing (λ _. has_mac s.shared.tests_passed) (λ e. cc))
+    first false more = failed_test_kept s test.HmacSha256 _ rules testing
+
+    last : (right : Bool) → nat_lt n 2 ≡ false → has_test s.shared.tests_passed test.HmacSha256 ≡ true → (let judged = judgement s.shared.public s.shared.tests_passed test.Generator right in
+        IsMachine (after_test s (with_tested s.shared (record { judgement = judged; engine = engine_after calls s.shared.engine test.Generator })) judged.refused events).machine)
+    last true over has = rw over (passed_kept s false (with_test s.shared.tests_passed test.Generator) _ over rules testing (λ e. cc) (λ _. record {
+      mac = with_test_includes s.shared.tests_passed test.Generator test.HmacSha256 has;
+      generator = has_generator s.shared.tests_passed;
+    }))
+    last false over has = failed_test_kept s test.Generator _ rules testing
+
+    earlier : 1 ≤ n → has_test s.shared.tests_passed test.HmacSha256 ≡ true
+    earlier some = (rw testing at rules.passed) some
+
+    by_count : (zero' : Bool) → (n == 0) ≡ zero' → (one : Bool) → (n == 1) ≡ one → (more : Bool) → nat_lt n 2 ≡ more
+        → (let due : Option Test = if zero' then Some test.HmacSha256 else if one then None else Some test.Generator in
+        let t : Tested V = tested calls s.shared.engine s.shared.public s.shared.tests_passed due in IsMachine (after_test s (with_tested s.shared t) t.judgement.refused events).machine)
+    by_count true is one k true m = first (answers_right calls s.shared.engine test.HmacSha256) m
+    by_count true is one k false m = absurd (grind (arith, nat_tests, is, m))
+    by_count false is true k true m = rw m (passed_kept s true s.shared.tests_passed _ m rules testing (λ _. earlier (grind (arith, nat_tests, k))) (λ e. cc))
+    by_count false is true k false m = absurd (grind (arith, nat_tests, k, m))
+    by_count false is false k true m = absurd (grind (arith, nat_tests, is, k, m))
+    by_count false is false k false m = last (answers_right calls s.shared.engine test.Generator) m (earlier (grind (arith, nat_tests, m)))
 
 pub select_role_kept : {V : Type 0} (s : MachineState V) (role : ℕ) → IsMachine s → is_permitted service.SelectRole (state_of s) ≡ true → IsMachine (select_role s role)
 select_role_kept s role rules allowed =
     let use' = return_for_select_role (state_of s) allowed in
-    quiet_kept s _ s.shared.tests_passed rules (role_selected_kept s.shared.public role rules.public use') (return_is_faultless (state_of s) use')
+    quiet_kept s _ s.shared.tests_passed rules (role_selected_kept s.shared.public role rules.public use')
+    (use_of_passed (role_state role) s.shared.public.tests_done s.shared.tests_passed (role_is_of_use role) (passed_in_use (state_of s) s.shared.public.tests_done s.shared.tests_passed use' rules.passed)) (return_is_faultless (state_of s) use')
     (return_is_not_entry (state_of s) use') (return_is_not_entry _ (role_is_of_use role))
 
 -- no sample shows no fault
@@ -82,27 +156,32 @@ no_samples (suc n) = refl
 pub reset_kept : {V : Type 0} (s : MachineState V) → IsMachine s → IsMachine (reset s)
 reset_kept s rules = record {
   public = was_reset_kept s.shared.public rules.public;
+  passed = tt;
   healthy = λ _. no_samples;
   slots = AreWellFormed-empty;
   entering = λ e. cc;
   wiped = λ _. refl;
 }
 
--- other slots and another engine
-pub slots_kept : {V : Type 0} (s : MachineState V) (engine : V) (slots : List Slot) → IsMachine s → AreWellFormed (record { slots = slots }) → IsMachine (with_slots s engine slots)
-slots_kept s engine slots rules are =
-    record { public = rules.public; healthy = rules.healthy; slots = are; entering = rules.entering; wiped = rules.wiped }
+-- other slots and rows, and another engine
+pub vault_kept : {V : Type 0} (s : MachineState V) (engine : V) (vault : Contents) → IsMachine s → AreWellFormed vault → IsMachine (with_vault (with_slots s engine s.slots) vault)
+vault_kept s engine vault rules are =
+    record { public = rules.public; passed = rules.passed; healthy = rules.healthy; slots = are; entering = rules.entering; wiped = rules.wiped }
+
+pub slots_kept : {V : Type 0} (s : MachineState V) (engine : V) (slots : List Slot) → IsMachine s → AreWellFormed (record (vault_of s) { slots = slots }) → IsMachine (with_slots s engine slots)
+slots_kept s engine slots rules are = vault_kept s engine (record (vault_of s) { slots = slots }) rules are
 
 pub zeroise_kept : {V : Type 0} (s : MachineState V) (slot : ℕ) → IsMachine s → IsMachine (zeroise s slot)
-zeroise_kept s slot rules = slots_kept s s.shared.engine _ rules (AreWellFormed-with_slot (vault_of s) slot empty_slot rules.slots refl)
+zeroise_kept s slot rules = vault_kept s s.shared.engine (zeroised_in (vault_of s) slot) rules (AreWellFormed-zeroised (vault_of s) slot rules.slots)
 
 pub zeroise_all_kept : {V : Type 0} (s : MachineState V) → IsMachine s → IsMachine (zeroise_all s)
-zeroise_all_kept s rules = slots_kept s s.shared.engine no_slots rules AreWellFormed-empty
+zeroise_all_kept s rules = vault_kept s s.shared.engine zeroised_all rules AreWellFormed-empty
 
 pub entry_begin_kept : {V : Type 0} (s : MachineState V) (target : Target) → IsMachine s → state_of s ≡ state.Officer → target.slot < 16
     → 1 ≤ target.header.uses → target.header.uses < 2 ^ 32 → IsTrue (length_fits target.header.kind target.header.domain target.length) → IsMachine (entry_begin s target)
 entry_begin_kept s target rules officer slot uses width fits = record {
   public = entry_begun_kept s.shared.public rules.public officer;
+  passed = rw officer at rules.passed;
   healthy = λ _. rules.healthy (λ e. cc);
   slots = rules.slots;
   entering = λ _. underway_begun target slot uses width fits;
@@ -113,6 +192,7 @@ pub entry_bytes_kept : {V : Type 0} (s : MachineState V) (piece : List ℕ) → 
     → IsMachine (record s { entry = with_piece s.entry piece })
 entry_bytes_kept s piece are_bytes rules entering fits = record {
   public = rules.public;
+  passed = rules.passed;
   healthy = rules.healthy;
   slots = rules.slots;
   entering = λ _. underway_with_piece s.entry piece are_bytes (rules.entering entering) fits;
@@ -132,6 +212,7 @@ entry_bytes_rules s piece events are_bytes rules entering = chosen (nat_le (s.en
 pub entry_over_kept : {V : Type 0} (s : MachineState V) → IsMachine s → state_of s ≡ state.Entry → IsMachine (entry_over s)
 entry_over_kept s rules entering = record {
   public = entry_ended_kept s.shared.public rules.public entering;
+  passed = rw entering at rules.passed;
   healthy = λ _. rules.healthy (λ e. cc);
   slots = rules.slots;
   entering = λ e. cc;
@@ -159,15 +240,15 @@ commit_kept calls engine target bytes check slot well are_bytes fits width =
     IsWellFormed-filled target.header bytes (subst (λ n. IsTrue (length_fits target.header.kind target.header.domain n)) long fits) width are_bytes)))
 
 -- what a service on one slot leaves of all
-pub on_slot_kept : {V : Type 0} (slots : List Slot) (id : ℕ) (service : Slot → SlotResult V) → AreWellFormed (record { slots = slots })
-    → IsWellFormedSlot (service (slot_at slots id)).slot → AreWellFormed (record { slots = (on_slot slots id service).slots })
-on_slot_kept slots id service are well = AreWellFormed-with_slot (record { slots = slots }) id (service (slot_at slots id)).slot are well
+pub on_slot_kept : {V : Type 0} (vault : Contents) (id : ℕ) (service : Slot → SlotResult V) → AreWellFormed vault
+    → IsWellFormedSlot (service (slot_in vault id)).slot → AreWellFormed (record vault { slots = (on_slot vault.slots id service).slots })
+on_slot_kept vault id service are well = AreWellFormed-with_slot vault id (service (slot_in vault id)).slot are well
 
 pub committed_kept : {V : Type 0} (calls : Calls V) (s : MachineState V) (target : Option Target) (check : List ℕ) → AreWellFormed (vault_of s) → IfSome target (λ t. IsEntered t s.entry)
-    → AreWellFormed (record { slots = (committed calls s target check).slots })
+    → AreWellFormed (record (vault_of s) { slots = (committed calls s target check).slots })
 committed_kept calls s None check are underway = are
 committed_kept calls s (Some target) check are underway =
-    on_slot_kept s.slots target.slot (commit_at calls s.shared.engine target (entered s.entry) check) are
+    on_slot_kept (vault_of s) target.slot (commit_at calls s.shared.engine target (entered s.entry) check) are
     (commit_kept calls s.shared.engine target (entered s.entry) check (slot_at s.slots target.slot) (are.each target.slot underway.slot)
     (IsBytes-take s.entry.filled s.entry.bytes underway.byte_values) underway.fits underway.uses_width)
 
@@ -194,20 +275,23 @@ on_source_kept engine slot kind approved after answer well =
     under_key_kept engine _ _ _ after answer (source_kept slot (source_fault slot.header kind approved) well)
 
 -- what comes before and after the slots
-after_kept : {V : Type 0} (s : MachineState V) (engine : V) (slots : List Slot) (over : Bool) → IsMachine s → IsReturn (state_of s) → AreWellFormed (record { slots = slots })
+after_kept : {V : Type 0} (s : MachineState V) (tests : ℕ) (engine : V) (slots : List Slot) (over : Bool) → IsMachine s → IsReturn (state_of s) → HavePassed tests
+    → AreWellFormed (record (vault_of s) { slots = slots })
     → IsPublicState (if over then sent_to_tests (use_counted s.shared.public) else use_counted s.shared.public)
-    → (let counted : Shared V = record s.shared { public = use_counted s.shared.public; engine = engine } in
+    → (let counted : Shared V = record s.shared { public = use_counted s.shared.public; tests_passed = tests; engine = engine } in
     let after : Shared V = if over then record counted { public = sent_to_tests counted.public; tests_passed = 0 } else counted in
     let t : MachineState V = record s { shared = after; slots = slots } in IsMachine t)
-after_kept s engine slots true rules use' are kept = record {
+after_kept s tests engine slots true rules use' have are kept = record {
   public = kept;
+  passed = none_done 0;
   healthy = λ _. rules.healthy (return_is_faultless (state_of s) use');
   slots = are;
   entering = λ e. cc;
   wiped = λ _. rules.wiped (return_is_not_entry (state_of s) use');
 }
-after_kept s engine slots false rules use' are kept = record {
+after_kept s tests engine slots false rules use' have are kept = record {
   public = kept;
+  passed = use_of_passed (state_of s) s.shared.public.tests_done tests use' have;
   healthy = rules.healthy;
   slots = are;
   entering = rules.entering;
@@ -215,9 +299,24 @@ after_kept s engine slots false rules use' are kept = record {
 }
 
 -- a cryptographic service in a role, whatever it made of engine and slots
-pub cryptographic_kept : {V : Type 0} (s : MachineState V) (engine : V) (slots : List Slot) → IsMachine s → is_permitted service.Hash (state_of s) ≡ true → AreWellFormed (record { slots = slots })
-    → (let counted : Shared V = record s.shared { public = use_counted s.shared.public; engine = engine } in
+pub cryptographic_kept : {V : Type 0} (s : MachineState V) (tests : ℕ) (engine : V) (slots : List Slot) → IsMachine s → is_permitted service.Hash (state_of s) ≡ true → Includes tests s.shared.tests_passed
+    → AreWellFormed (record (vault_of s) { slots = slots })
+    → (let counted : Shared V = record s.shared { public = use_counted s.shared.public; tests_passed = tests; engine = engine } in
     let t : MachineState V = record s { shared = after_slots counted; slots = slots } in IsMachine t)
-cryptographic_kept s engine slots rules allowed are =
+cryptographic_kept s tests engine slots rules allowed includes are =
     let use' = return_for_hash (state_of s) allowed in
-    after_kept s engine slots (is_period_over (use_counted s.shared.public)) rules use' are (used_kept s.shared.public rules.public use')
+    let have = passed_more tests s.shared.tests_passed includes (passed_in_use (state_of s) s.shared.public.tests_done s.shared.tests_passed use' rules.passed) in
+    after_kept s tests engine slots (is_period_over (use_counted s.shared.public)) rules use' have are (used_kept s.shared.public rules.public use')
+
+-- one whose known-answer test failed
+pub failed_use_is_kept : {V : Type 0} (s : MachineState V) (t : Test) (engine : V) → IsMachine s → is_permitted service.Hash (state_of s) ≡ true
+    → (let failed : Shared V = record s.shared { public = has_failed (failure.KnownAnswer (number_of t)) (use_counted s.shared.public); engine = engine } in
+    let u : MachineState V = record s { shared = after_slots failed } in IsMachine u)
+failed_use_is_kept {V} s t engine rules allowed = rw (failed_is_not_over (use_counted s.shared.public) (failure.KnownAnswer (number_of t))) (record {
+  public = failed_use_kept s.shared.public (failure.KnownAnswer (number_of t)) rules.public (is_failure t);
+  passed = tt;
+  healthy = λ other. absurd (other refl);
+  slots = rules.slots;
+  entering = λ e. cc;
+  wiped = λ _. rules.wiped (return_is_not_entry (state_of s) (return_for_hash (state_of s) allowed));
+})

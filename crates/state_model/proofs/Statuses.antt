@@ -1,5 +1,5 @@
 -- What is left of the events of noise, which statuses there are, and what the indicator is where nothing was done.
-use Rattle.std.proofs.Common.{◌≡◌, ◌≢◌, ◌+◌, ℕ, List, [], Bool, true, false, Option, Some, None, length, take, refl, sym, ap, ◌∙◌, if◌then◌else◌}
+use Rattle.std.proofs.Common.{◌≡◌, ◌≢◌, ◌+◌, ℕ, List, [], Bool, true, false, Option, Some, None, length, take, refl, if◌then◌else◌}
 use Rattle.std.specs.Prelude.{◌==◌, nat_le, not, bytes_eq}
 use Rattle.service_table.specs.declared.service.Service.{Service}
 use Rattle.service_table.specs.declared.service.Service.TheVariants as service
@@ -7,7 +7,6 @@ use Rattle.service_table.specs.declared.status.Status.{Status}
 use Rattle.service_table.specs.declared.status.Status.TheVariants as status
 use Rattle.service_table.specs.Numbers.{service_numbered}
 use Rattle.service_table.specs.Services.{is_permitted, is_cryptographic, is_approved}
-use Rattle.bits_core.specs.declared.parameter.Kind.{Kind}
 use Rattle.bits_core.specs.declared.parameter.Kind.TheVariants as kind
 use Rattle.ssp_slots.specs.declared.slot.Slot.{Slot}
 use Rattle.ssp_slots.specs.declared.slot_fault.SlotFault.{SlotFault}
@@ -16,19 +15,29 @@ use Rattle.ssp_slots.specs.Refusals.{source_fault, vacancy_fault}
 use Rattle.outside.specs.declared.traits.Sample.{Sample}
 use Rattle.module_frames.specs.CommandFrames.{CommandFrame}
 use Rattle.module_frames.specs.PublicState.{no_block}
+use Rattle.module_frames.specs.PublicEffects.{sequence_taken, use_counted}
 use Rattle.module_frames.specs.Requests.{RequestValue, CryptographicRequest, service_for, request_of, IsInRange, IsCryptographicInRange}
 use Rattle.module_frames.specs.Requests as request
 use Rattle.engine_core.specs.Calls.{Calls}
-use Rattle.crypto_services.specs.AtSlots.{Answer, SlotResult, slot_at, fault_status, source, source_by, on_source, under_key, unless_fault, refusal, success}
+use Rattle.crypto_services.specs.AtSlots.{Answer, SlotResult, slot_at, fault_status, source_by, on_source, unless_fault, refusal, success}
 use Rattle.crypto_services.specs.Services.{is_leftmost, verified}
 use Rattle.crypto_services.specs.Indicator.{is_ok}
 use Rattle.state_model.specs.declared.entry.Target.{Target}
-use Rattle.state_model.specs.Commit.{unless, commit_at, after_check, check_value, entered}
+use Rattle.state_model.specs.Commit.{unless, check_value, entered}
 use Rattle.state_model.specs.Entries.{with_piece, entry_length}
 use Rattle.state_model.specs.MachineState.{MachineState, state_of}
-use Rattle.state_model.specs.Management.{Stepped, refused, done, committed}
-use Rattle.state_model.specs.Cryptographic.{service_at}
+use Rattle.state_model.specs.Management.{Stepped, refused, done, committed, with_public, with_tested, after_test, test_step}
+use Rattle.state_model.specs.SelfTesting.{Tested, test_due, test_for, due_at_first_use}
+use Rattle.state_model.specs.Cryptographic.{service_at, ready_after, served, cryptographic_step}
 use Rattle.state_model.specs.Step.{step, dispatch, dispatch_request, perform, indicated}
+use Rattle.state_model.proofs.Sequences.{by_order}
+use Rattle.state_model.proofs.Testing.{tested_by}
+
+-- no test takes one
+test_left : {V : Type 0} (calls : Calls V) (s : MachineState V) (events : List Sample) → (test_step calls s events).left ≡ events
+test_left {V} calls s events =
+    let Left : Tested V → Type 0 = λ t. (after_test s (with_tested s.shared t) t.judgement.refused events).left ≡ events in
+    tested_by calls s.shared.engine s.shared.public s.shared.tests_passed Left (λ more engine includes. refl) (λ t engine. refl) (test_due s.shared.public.tests_done)
 
 -- no service takes an event of noise yet
 pub perform_left : {V : Type 0} (calls : Calls V) (s : MachineState V) (events : List Sample) (what : RequestValue) → (perform calls s events what).left ≡ events
@@ -38,7 +47,7 @@ perform_left calls s events (request.EntryBytes piece) = by_room (nat_le (s.entr
     by_room true = refl
     by_room false = refl
 perform_left calls s events (request.PowerOn period) = refl
-perform_left calls s events request.TestStep = refl
+perform_left calls s events request.TestStep = test_left calls s events
 perform_left calls s events request.RequestTests = refl
 perform_left calls s events request.ShowStatus = refl
 perform_left calls s events request.ShowVersion = refl
@@ -55,6 +64,7 @@ perform_left calls s events (request.Cryptographic what) = refl
 -- What holds of each status that a service may answer.
 pub record OfServices (P : Status → Type 0) : Type 0 where
   pub ok : P status.Ok
+  pub test_failed : P status.TestFailed
   pub bad_length : P status.BadLength
   pub check_failed : P status.CheckFailed
   pub auth_failed : P status.AuthFailed
@@ -96,6 +106,18 @@ committed_status P of calls s (Some target) check =
     (fault_or_status P of _ _ (vacancy_fault (slot_at s.slots target.slot).header) _
     (unless_status P _ _ (not (bytes_eq check (check_value calls s.shared.engine target (entered s.entry)))) status.CheckFailed _ of.check_failed of.ok))
 
+test_status : {V : Type 0} (P : Status → Type 0) → OfServices P → (calls : Calls V) (s : MachineState V) (events : List Sample) → P (test_step calls s events).status
+test_status {V} P of calls s events =
+    let Answered : Tested V → Type 0 = λ t. P (after_test s (with_tested s.shared t) t.judgement.refused events).status in
+    tested_by calls s.shared.engine s.shared.public s.shared.tests_passed Answered (λ more engine includes. of.ok) (λ t engine. of.test_failed) (test_due s.shared.public.tests_done)
+
+cryptographic_status : {V : Type 0} (P : Status → Type 0) → OfServices P → (calls : Calls V) (s : MachineState V) (events : List Sample) (what : CryptographicRequest)
+    → P (cryptographic_step calls s events what).status
+cryptographic_status {V} P of calls s events what =
+    let Answered : Tested V → Type 0 = λ t. P (served calls s (ready_after s.shared t events) what).status in
+    tested_by calls s.shared.engine (use_counted s.shared.public) s.shared.tests_passed Answered (λ more engine includes. service_status P of calls engine [] s.slots what) (λ t engine. of.test_failed)
+    (due_at_first_use s.shared.tests_passed (test_for what))
+
 -- so it holds of the status of each request that is performed
 pub performed_status : {V : Type 0} (P : Status → Type 0) → OfServices P → (calls : Calls V) (s : MachineState V) (events : List Sample) (what : RequestValue) → P (perform calls s events what).status
 performed_status P of calls s events (request.EntryBytes piece) = by_room (nat_le (s.entry.filled + length piece) (entry_length s.entry))
@@ -104,9 +126,9 @@ performed_status P of calls s events (request.EntryBytes piece) = by_room (nat_l
     by_room true = of.ok
     by_room false = of.bad_length
 performed_status P of calls s events (request.EntryCommit check) = committed_status P of calls s s.entry.target check
-performed_status P of calls s events (request.Cryptographic what) = service_status P of calls s.shared.engine [] s.slots what
+performed_status P of calls s events (request.Cryptographic what) = cryptographic_status P of calls s events what
 performed_status P of calls s events (request.PowerOn period) = of.ok
-performed_status P of calls s events request.TestStep = of.ok
+performed_status P of calls s events request.TestStep = test_status P of calls s events
 performed_status P of calls s events request.RequestTests = of.ok
 performed_status P of calls s events request.ShowStatus = of.ok
 performed_status P of calls s events request.ShowVersion = of.ok
@@ -128,25 +150,47 @@ fault_is_none fault.OccupiedSlot = λ e. cc
 fault_is_none fault.NotExportable = λ e. cc
 
 of_no_noise : OfServices (λ why. why ≢ status.NoiseFault)
-of_no_noise = record { ok = λ e. cc; bad_length = λ e. cc; check_failed = λ e. cc; auth_failed = λ e. cc; by_slot = fault_is_none }
+of_no_noise = record { ok = λ e. cc; test_failed = λ e. cc; bad_length = λ e. cc; check_failed = λ e. cc; auth_failed = λ e. cc; by_slot = fault_is_none }
 
-requested_is_none : {V : Type 0} (calls : Calls V) (s : MachineState V) (events : List Sample) (read : Option RequestValue) → (dispatch_request calls s events read).status ≢ status.NoiseFault
-requested_is_none calls s events None = λ e. cc
-requested_is_none calls s events (Some what) = performed_status (λ why. why ≢ status.NoiseFault) of_no_noise calls s events what
+requested_status : {V : Type 0} (P : Status → Type 0) → OfServices P → P status.BadBody → (calls : Calls V) (s : MachineState V) (events : List Sample) (read : Option RequestValue)
+    → P (dispatch_request calls s events read).status
+requested_status P of bad calls s events None = bad
+requested_status P of bad calls s events (Some what) = performed_status P of calls s events what
 
-choice_is_none : {V : Type 0} (calls : Calls V) (s : MachineState V) (events : List Sample) (allowed : Bool) (read : Option RequestValue)
-    → (if allowed then dispatch_request calls s events read else refused s status.NotInState events).status ≢ status.NoiseFault
-choice_is_none calls s events true read = requested_is_none calls s events read
-choice_is_none calls s events false read = λ e. cc
+choice_status : {V : Type 0} (P : Status → Type 0) → OfServices P → P status.NotInState → P status.BadBody → (calls : Calls V) (s : MachineState V) (events : List Sample) (allowed : Bool)
+    (read : Option RequestValue) → P (if allowed then dispatch_request calls s events read else refused s status.NotInState events).status
+choice_status P of barred bad calls s events true read = requested_status P of bad calls s events read
+choice_status P of barred bad calls s events false read = barred
 
-dispatched_is_none : {V : Type 0} (calls : Calls V) (s : MachineState V) (events : List Sample) (found : Option Service) (body : List ℕ) → (dispatch calls s events found body).status ≢ status.NoiseFault
-dispatched_is_none calls s events None body = λ e. cc
-dispatched_is_none calls s events (Some found) body = choice_is_none calls s events (is_permitted found (state_of s)) (request_of found body)
+-- so it holds of the status of each command in its order, where it holds of the refusals that come first
+pub dispatched_status : {V : Type 0} (P : Status → Type 0) → OfServices P → P status.UnknownService → P status.NotInState → P status.BadBody
+    → (calls : Calls V) (s : MachineState V) (events : List Sample) (found : Option Service) (body : List ℕ) → P (dispatch calls s events found body).status
+dispatched_status P of unknown barred bad calls s events None body = unknown
+dispatched_status P of unknown barred bad calls s events (Some found) body =
+    choice_status P of barred bad calls s events (is_permitted found (state_of s)) (request_of found body)
 
 -- no command meets a fault of noise, since none takes a sample yet
 pub no_noise_fault : {V : Type 0} (calls : Calls V) (s : MachineState V) (events : List Sample) (command : CommandFrame) → (step calls s events command).status ≢ status.NoiseFault
-unfolding step
-no_noise_fault calls s events command = dispatched_is_none calls s events (service_numbered command.service) command.body
+no_noise_fault {V} calls s events command =
+    let Other : Stepped V → Type 0 = λ after. after.status ≢ status.NoiseFault in
+    let in_order : (t : MachineState V) → (dispatch calls t events (service_numbered command.service) command.body).status ≢ status.NoiseFault =
+    λ t. dispatched_status (λ why. why ≢ status.NoiseFault) of_no_noise (λ e. cc) (λ e. cc) (λ e. cc) calls t events (service_numbered command.service) command.body in
+    by_order calls s events command Other (λ _. in_order s) (λ number _ _. in_order (with_public s (sequence_taken s.shared.public))) (λ number _ _ e. cc)
+
+-- nor is a command that comes in its order answered as one that doesn't
+fault_is_in_order : (why : SlotFault) → fault_status why ≢ status.OutOfOrder
+fault_is_in_order fault.EmptySlot = λ e. cc
+fault_is_in_order fault.WrongKind = λ e. cc
+fault_is_in_order fault.WrongDomain = λ e. cc
+fault_is_in_order fault.Spent = λ e. cc
+fault_is_in_order fault.OccupiedSlot = λ e. cc
+fault_is_in_order fault.NotExportable = λ e. cc
+
+of_order : OfServices (λ why. why ≢ status.OutOfOrder)
+of_order = record { ok = λ e. cc; test_failed = λ e. cc; bad_length = λ e. cc; check_failed = λ e. cc; auth_failed = λ e. cc; by_slot = fault_is_in_order }
+
+pub dispatched_in_order : {V : Type 0} (calls : Calls V) (s : MachineState V) (events : List Sample) (found : Option Service) (body : List ℕ) → (dispatch calls s events found body).status ≢ status.OutOfOrder
+dispatched_in_order calls s events found body = dispatched_status (λ why. why ≢ status.OutOfOrder) of_order (λ e. cc) (λ e. cc) (λ e. cc) calls s events found body
 
 -- a request for a cryptographic service is one
 pub cryptographic_request : (what : RequestValue) → is_cryptographic (service_for what) ≡ true → IsInRange what

@@ -1,9 +1,8 @@
 -- What zeroising leaves, and what refusals leave as it was.
 use Rattle.std.proofs.Common.{◌≡◌, ◌≢◌, ◌⊎◌, ℕ, ◌+◌, List, [], take, Bool, true, false, Option, Some, None, length, replicate, inl, inr, refl, sym, ap, subst, ◌∙◌, arith, if◌then◌else◌}
-use Rattle.std.specs.Prelude.{◌==◌, not, nat_le, bytes_eq}
+use Rattle.std.specs.Prelude.{◌==◌, not, nat_le, bytes_eq, slice_index_or, slice_set}
 use Rattle.std.proofs.lemmas.Bool.{cases_lt}
-use Rattle.std.proofs.lemmas.List.{get_or-replicate, get_or_past, get_or-set_same, get_or-set_other, set_past, length-replicate}
-use Rattle.bits_core.specs.declared.parameter.Kind.{Kind}
+use Rattle.std.proofs.lemmas.List.{get_or-replicate, get_or_past, get_or-set_same, get_or-set_other, set_past}
 use Rattle.bits_core.specs.declared.parameter.Kind.TheVariants as kind
 use Rattle.service_table.specs.declared.service.Service.{Service}
 use Rattle.service_table.specs.declared.service.Service.TheVariants as service
@@ -15,75 +14,107 @@ use Rattle.ssp_slots.specs.declared.slot.Slot.{Slot}
 use Rattle.ssp_slots.specs.declared.slot_fault.SlotFault.{SlotFault}
 use Rattle.ssp_slots.specs.declared.slot_fault.SlotFault.TheVariants as fault
 use Rattle.ssp_slots.specs.Refusals.{source_fault, vacancy_fault}
-use Rattle.ssp_slots.specs.Slots.{empty_slot}
+use Rattle.ssp_slots.specs.Slots.{Contents, empty_slot, empty_vault, slot_in, row_in, zeroised_in, OthersStay}
+use Rattle.ssp_slots.proofs.WellFormedSlots.{empty_row}
 use Rattle.outside.specs.declared.traits.Sample.{Sample}
-use Rattle.module_frames.specs.CommandFrames.{CommandFrame}
 use Rattle.module_frames.specs.PublicState.{no_block}
+use Rattle.module_frames.specs.PublicEffects.{sequence_taken, use_counted}
 use Rattle.module_frames.specs.Requests.{RequestValue, CryptographicRequest, request_of}
 use Rattle.module_frames.specs.Requests as request
 use Rattle.engine_core.specs.Calls.{Calls}
-use Rattle.crypto_services.specs.AtSlots.{Answer, SlotResult, SlotsResult, slot_at, with_slot_at, on_slot, on_source, source_by, unless_fault, fault_status, success, refusal}
+use Rattle.crypto_services.specs.AtSlots.{Answer, SlotResult, slot_at, with_slot_at, on_slot, on_source, source_by, unless_fault, fault_status, success, refusal}
 use Rattle.crypto_services.specs.Services.{verified, is_leftmost, mac_at, mac_verify_at}
 use Rattle.crypto_services.proofs.Sourcing.{laid_back_at}
 use Rattle.state_model.specs.declared.entry.Target.{Target}
 use Rattle.state_model.specs.Commit.{unless, commit_at, check_value, entered}
 use Rattle.state_model.specs.Entries.{with_piece, entry_length}
-use Rattle.state_model.specs.MachineState.{MachineState, state_of, no_slots}
-use Rattle.state_model.specs.Management.{Stepped, refused, done, committed, zeroise}
-use Rattle.state_model.specs.Cryptographic.{service_at}
-use Rattle.state_model.specs.Step.{step, dispatch, dispatch_request, perform, request_at}
+use Rattle.state_model.specs.MachineState.{MachineState, state_of, vault_of, no_slots}
+use Rattle.state_model.specs.Management.{Stepped, refused, done, committed, zeroise, with_public, with_tested, after_test, test_step}
+use Rattle.state_model.specs.SelfTesting.{Tested, test_due, test_for, due_at_first_use}
+use Rattle.state_model.specs.Cryptographic.{service_at, ready_after, served, cryptographic_step}
+use Rattle.state_model.specs.Step.{dispatch, dispatch_request, perform, request_at, number_taken}
 use Rattle.state_model.specs.Laws.{ZeroisingEmptiesAll, ZeroisingEmptiesOne, IsRefusedAtOnce, RefusalsChangeNothing, IsRefusedBySlot, RefusalsChangeNoSlot}
+use Rattle.state_model.proofs.Sequences.{by_order}
+use Rattle.state_model.proofs.Testing.{tested_by}
 use Rattle.state_model.proofs.Statuses.{OfServices, performed_status}
 
--- each of no slots is empty
-each_empty : (id : ℕ) → slot_at no_slots id ≡ empty_slot
-each_empty id =
-    elim (cases_lt id 16) [
-      | inl within ↦ get_or-replicate 16 id empty_slot empty_slot within
-      | inr past ↦ get_or_past no_slots id empty_slot past
-    ]
+-- slot and row with a number are empty
+abbrev IsEmptyAt : Contents → ℕ → Type 0
+IsEmptyAt vault id = (slot_in vault id ≡ empty_slot) × (row_in vault id ≡ 0)
+
+-- each slot and row of an empty vault is empty
+each_empty : (id : ℕ) → IsEmptyAt empty_vault id
+each_empty id = (
+  elim (cases_lt id 16) [
+    | inl within ↦ get_or-replicate 16 id empty_slot empty_slot within
+    | inr past ↦ get_or_past no_slots id empty_slot past
+  ],
+  empty_row id,
+)
 
 -- done, or refused where it isn't permitted or not of its form
-emptied_by : {V : Type 0} (calls : Calls V) (s : MachineState V) (events : List Sample) (what : RequestValue) → (perform calls s events what).machine.slots ≡ no_slots → (allowed whole : Bool)
+emptied_by : {V : Type 0} (calls : Calls V) (s : MachineState V) (events : List Sample) (what : RequestValue) → vault_of (perform calls s events what).machine ≡ empty_vault → (allowed whole : Bool)
     → (let after : Stepped V = if allowed then dispatch_request calls s events (if whole then Some what else None) else refused s status.NotInState events in
-    after.status ≡ status.Ok → (id : ℕ) → slot_at after.machine.slots id ≡ empty_slot)
-emptied_by calls s events what none true true ok id = ap (λ (slots : List Slot). slot_at slots id) none ∙ each_empty id
+    after.status ≡ status.Ok → (id : ℕ) → IsEmptyAt (vault_of after.machine) id)
+emptied_by calls s events what none true true ok id = let Empty : Contents → Type 0 = λ vault. IsEmptyAt vault id in subst Empty (sym none) (each_empty id)
 emptied_by calls s events what none true false ok id = cc
 emptied_by calls s events what none false whole ok id = cc
 
-pub empties_all : {V : Type 0} (calls : Calls V) → ZeroisingEmptiesAll calls
-unfolding step
-empties_all {V} calls s events command which =
-    let Empties : Option Service → Type 0 = λ found. (dispatch calls s events found command.body).status ≡ status.Ok
-    → (id : ℕ) → slot_at (dispatch calls s events found command.body).machine.slots id ≡ empty_slot in
+all_emptied : {V : Type 0} (calls : Calls V) (s : MachineState V) (events : List Sample) (body : List ℕ) (numbered : Option Service)
+    → (numbered ≡ Some service.ZeroiseAll) ⊎ (numbered ≡ Some service.Reset) → (dispatch calls s events numbered body).status ≡ status.Ok
+    → (id : ℕ) → IsEmptyAt (vault_of (dispatch calls s events numbered body).machine) id
+all_emptied {V} calls s events body numbered which =
+    let Empties : Option Service → Type 0 = λ found. (dispatch calls s events found body).status ≡ status.Ok
+    → (id : ℕ) → IsEmptyAt (vault_of (dispatch calls s events found body).machine) id in
     elim which [
-      | inl all ↦ subst Empties (sym all) (emptied_by calls s events request.ZeroiseAll refl (is_permitted service.ZeroiseAll (state_of s)) (length command.body == 0))
-      | inr reset ↦ subst Empties (sym reset) (emptied_by calls s events request.Reset refl (is_permitted service.Reset (state_of s)) (length command.body == 0))
+      | inl all ↦ subst Empties (sym all) (emptied_by calls s events request.ZeroiseAll refl (is_permitted service.ZeroiseAll (state_of s)) (length body == 0))
+      | inr reset ↦ subst Empties (sym reset) (emptied_by calls s events request.Reset refl (is_permitted service.Reset (state_of s)) (length body == 0))
     ]
 
--- an empty slot laid at a number is found there
-laid_empty : (slots : List Slot) (id : ℕ) → slot_at (with_slot_at slots id empty_slot) id ≡ empty_slot
-laid_empty slots id =
-    elim (cases_lt id (length slots)) [
-      | inl within ↦ get_or-set_same slots id empty_slot empty_slot within
-      | inr past ↦ ap (λ (xs : List Slot). slot_at xs id) (set_past slots id empty_slot past) ∙ get_or_past slots id empty_slot past
+pub empties_all : {V : Type 0} (calls : Calls V) → ZeroisingEmptiesAll calls
+empties_all {V} calls s events command which =
+    let Empties : Stepped V → Type 0 = λ after. after.status ≡ status.Ok → (id : ℕ) → IsEmptyAt (vault_of after.machine) id in
+    by_order calls s events command Empties (λ _. all_emptied calls s events command.body (service_numbered command.service) which)
+    (λ number _ _. all_emptied calls (with_public s (sequence_taken s.shared.public)) events command.body (service_numbered command.service) which)
+    (λ number _ _ ok. cc)
+
+-- what is laid at a number is found there, and so is what stands past the end
+laid_empty : {A : Type 0} (xs : List A) (id : ℕ) (x : A) → slice_index_or (slice_set xs id x) id x ≡ x
+laid_empty {A} xs id x =
+    elim (cases_lt id (length xs)) [
+      | inl within ↦ get_or-set_same xs id x x within
+      | inr past ↦ ap (λ (ys : List A). slice_index_or ys id x) (set_past xs id x past) ∙ get_or_past xs id x past
     ]
+
+-- slot and row with a number are empty, and all others are as they were
+abbrev IsEmptiedAt : Contents → Contents → ℕ → Type 0
+IsEmptiedAt before after slot = (slot_in after slot ≡ empty_slot) × (row_in after slot ≡ 0) × OthersStay before after slot
+
+emptied_at : (vault : Contents) (slot : ℕ) → IsEmptiedAt vault (zeroised_in vault slot) slot
+emptied_at vault slot = (
+  laid_empty vault.slots slot empty_slot,
+  laid_empty vault.rows slot 0,
+  λ other apart. (get_or-set_other vault.slots slot other empty_slot empty_slot apart, get_or-set_other vault.rows slot other 0 0 apart),
+)
 
 one_emptied : {V : Type 0} (calls : Calls V) (s : MachineState V) (events : List Sample) (slot : ℕ) (read : Option RequestValue) → read ≡ Some (request.Zeroise slot) → (allowed : Bool)
     → (let after : Stepped V = if allowed then dispatch_request calls s events read else refused s status.NotInState events in
-    after.status ≡ status.Ok → (slot_at after.machine.slots slot ≡ empty_slot) × ((other : ℕ) → other ≢ slot → slot_at after.machine.slots other ≡ slot_at s.slots other))
-one_emptied calls s events slot read is true ok = rw is (laid_empty s.slots slot, λ other apart. get_or-set_other s.slots slot other empty_slot empty_slot apart)
+    after.status ≡ status.Ok → IsEmptiedAt (vault_of s) (vault_of after.machine) slot)
+one_emptied calls s events slot read is true ok = rw is (emptied_at (vault_of s) slot)
 one_emptied calls s events slot read is false ok = cc
 
+service_emptied : {V : Type 0} (calls : Calls V) (s : MachineState V) (events : List Sample) (body : List ℕ) (slot : ℕ) (found : Option Service) → request_at found body ≡ Some (request.Zeroise slot)
+    → (dispatch calls s events found body).status ≡ status.Ok
+    → IsEmptiedAt (vault_of s) (vault_of (dispatch calls s events found body).machine) slot
+service_emptied calls s events body slot None is = cc
+service_emptied calls s events body slot (Some found) is = one_emptied calls s events slot (request_of found body) is (is_permitted found (state_of s))
+
 pub empties_one : {V : Type 0} (calls : Calls V) → ZeroisingEmptiesOne calls
-unfolding step
-empties_one {V} calls s events command slot = by_service (service_numbered command.service)
-  where
-    by_service : (found : Option Service) → request_at found command.body ≡ Some (request.Zeroise slot) → (dispatch calls s events found command.body).status ≡ status.Ok
-        → (slot_at (dispatch calls s events found command.body).machine.slots slot ≡ empty_slot)
-        × ((other : ℕ) → other ≢ slot → slot_at (dispatch calls s events found command.body).machine.slots other ≡ slot_at s.slots other)
-    by_service None is = cc
-    by_service (Some found) is = one_emptied calls s events slot (request_of found command.body) is (is_permitted found (state_of s))
+empties_one {V} calls s events command slot is =
+    let Empties : Stepped V → Type 0 = λ after. after.status ≡ status.Ok → IsEmptiedAt (vault_of s) (vault_of after.machine) slot in
+    by_order calls s events command Empties (λ _. service_emptied calls s events command.body slot (service_numbered command.service) is)
+    (λ number _ _. service_emptied calls (with_public s (sequence_taken s.shared.public)) events command.body slot (service_numbered command.service) is)
+    (λ number _ _ ok. cc)
 
 -- no status of a service is one of a refusal at once
 not_at_once : (why : Status) → why ≢ status.UnknownService → why ≢ status.NotInState → why ≢ status.BadBody → IsRefusedAtOnce why → ⊥
@@ -100,6 +131,7 @@ slot_not_at_once fault.NotExportable = not_at_once status.NotExportable (λ e. c
 never_at_once : OfServices (λ why. IsRefusedAtOnce why → ⊥)
 never_at_once = record {
   ok = not_at_once status.Ok (λ e. cc) (λ e. cc) (λ e. cc);
+  test_failed = not_at_once status.TestFailed (λ e. cc) (λ e. cc) (λ e. cc);
   bad_length = not_at_once status.BadLength (λ e. cc) (λ e. cc) (λ e. cc);
   check_failed = not_at_once status.CheckFailed (λ e. cc) (λ e. cc) (λ e. cc);
   auth_failed = not_at_once status.AuthFailed (λ e. cc) (λ e. cc) (λ e. cc);
@@ -126,8 +158,12 @@ dispatched_unchanged calls s events None body which = (refl, refl, refl)
 dispatched_unchanged calls s events (Some found) body which = choice_unchanged calls s events (is_permitted found (state_of s)) (request_of found body) which
 
 pub refusals_unchanged : {V : Type 0} (calls : Calls V) → RefusalsChangeNothing calls
-unfolding step
-refusals_unchanged calls s events command = dispatched_unchanged calls s events (service_numbered command.service) command.body
+refusals_unchanged {V} calls s events command =
+    let Stays : Stepped V → Type 0 = λ after. IsRefusedAtOnce after.status → Unchanged (number_taken s command.sequence) events after in
+    by_order calls s events command Stays
+    (λ none which. rw none (dispatched_unchanged calls s events (service_numbered command.service) command.body which))
+    (λ number some _ which. rw some (dispatched_unchanged calls (with_public s (sequence_taken s.shared.public)) events (service_numbered command.service) command.body which))
+    (λ number some _ which. absurd (not_at_once status.OutOfOrder (λ e. cc) (λ e. cc) (λ e. cc) which))
 
 -- what was done, or checked, was refused by no slot
 not_by_slot : (why : Status) → why ≢ status.EmptySlot → why ≢ status.WrongKind → why ≢ status.WrongDomain → why ≢ status.Spent → why ≢ status.OccupiedSlot → IsRefusedBySlot why → ⊥
@@ -190,6 +226,18 @@ committed_stays calls s (Some target) check which =
     all_stay s.slots target.slot (commit_at calls s.shared.engine target (entered s.entry) check)
     (commit_stays calls s.shared.engine target (entered s.entry) check (slot_at s.slots target.slot)) which
 
+test_stays : {V : Type 0} (calls : Calls V) (s : MachineState V) (events : List Sample) → (test_step calls s events).machine.slots ≡ s.slots
+test_stays {V} calls s events =
+    let Stays : Tested V → Type 0 = λ t. (after_test s (with_tested s.shared t) t.judgement.refused events).machine.slots ≡ s.slots in
+    tested_by calls s.shared.engine s.shared.public s.shared.tests_passed Stays (λ more engine includes. refl) (λ t engine. refl) (test_due s.shared.public.tests_done)
+
+cryptographic_stays : {V : Type 0} (calls : Calls V) (s : MachineState V) (events : List Sample) (what : CryptographicRequest) → IsRefusedBySlot (cryptographic_step calls s events what).status
+    → (cryptographic_step calls s events what).machine.slots ≡ s.slots
+cryptographic_stays {V} calls s events what =
+    let Stays : Tested V → Type 0 = λ t. IsRefusedBySlot (served calls s (ready_after s.shared t events) what).status → (served calls s (ready_after s.shared t events) what).machine.slots ≡ s.slots in
+    tested_by calls s.shared.engine (use_counted s.shared.public) s.shared.tests_passed Stays (λ more engine includes. service_stays calls engine [] s.slots what) (λ t engine which. refl)
+    (due_at_first_use s.shared.tests_passed (test_for what))
+
 performed_stays : {V : Type 0} (calls : Calls V) (s : MachineState V) (events : List Sample) (what : RequestValue) → IsRefusedBySlot (perform calls s events what).status
     → (perform calls s events what).machine.slots ≡ s.slots
 performed_stays calls s events (request.EntryBytes piece) which = by_room (nat_le (s.entry.filled + length piece) (entry_length s.entry))
@@ -198,12 +246,12 @@ performed_stays calls s events (request.EntryBytes piece) which = by_room (nat_l
     by_room true = refl
     by_room false = refl
 performed_stays calls s events (request.EntryCommit check) which = committed_stays calls s s.entry.target check which
-performed_stays calls s events (request.Cryptographic what) which = service_stays calls s.shared.engine [] s.slots what which
+performed_stays calls s events (request.Cryptographic what) which = cryptographic_stays calls s events what which
 performed_stays calls s events request.Reset which = absurd (ok_by_no_slot which)
 performed_stays calls s events (request.Zeroise slot) which = absurd (ok_by_no_slot which)
 performed_stays calls s events request.ZeroiseAll which = absurd (ok_by_no_slot which)
 performed_stays calls s events (request.PowerOn period) which = refl
-performed_stays calls s events request.TestStep which = refl
+performed_stays calls s events request.TestStep which = test_stays calls s events
 performed_stays calls s events request.RequestTests which = refl
 performed_stays calls s events request.ShowStatus which = refl
 performed_stays calls s events request.ShowVersion which = refl
@@ -228,5 +276,8 @@ dispatched_stays calls s events None body which = refl
 dispatched_stays calls s events (Some found) body which = choice_stays calls s events (is_permitted found (state_of s)) (request_of found body) which
 
 pub refusals_stay : {V : Type 0} (calls : Calls V) → RefusalsChangeNoSlot calls
-unfolding step
-refusals_stay calls s events command = dispatched_stays calls s events (service_numbered command.service) command.body
+refusals_stay {V} calls s events command =
+    let Stays : Stepped V → Type 0 = λ after. IsRefusedBySlot after.status → after.machine.slots ≡ s.slots in
+    by_order calls s events command Stays (λ _. dispatched_stays calls s events (service_numbered command.service) command.body)
+    (λ number _ _. dispatched_stays calls (with_public s (sequence_taken s.shared.public)) events (service_numbered command.service) command.body)
+    (λ number _ _ which. refl)

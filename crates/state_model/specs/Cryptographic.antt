@@ -13,7 +13,8 @@ use Rattle.crypto_services.specs.AtSlots.{SlotsResult, on_no_slot, on_slot, refu
 use Rattle.crypto_services.specs.Services.{hash_result, mac_at, mac_verify_at}
 use Rattle.crypto_services.specs.Indicator.{ServiceUse}
 use Rattle.state_model.specs.MachineState.{Shared, MachineState}
-use Rattle.state_model.specs.Management.{Stepped, tests_forgotten}
+use Rattle.state_model.specs.Management.{Stepped, tests_forgotten, with_tested}
+use Rattle.state_model.specs.SelfTesting.{Tested, tested, test_for, due_at_first_use}
 
 -- what is there when the slots are looked at: all that no key reaches, the events left, the bytes that were drawn, and the reason
 -- where the command is refused already
@@ -23,9 +24,13 @@ pub record Ready (V : Type 0) : Type 0 where
   pub drawn : List ℕ
   pub refused : Option Status
 
--- Before the slots: the use is counted. No service draws bytes yet.
-abbrev pub before_slots : {V : Type 0} → Shared V → List Sample → CryptographicRequest → Ready V
-before_slots shared events what = record { shared = record shared { public = use_counted shared.public }; left = events; drawn = []; refused = None }
+abbrev pub ready_after : {V : Type 0} → Shared V → Tested V → List Sample → Ready V
+ready_after shared tests events = record { shared = with_tested shared tests; left = events; drawn = []; refused = tests.judgement.refused }
+
+-- Before the slots: the use is counted, and what is used for the first time since tests were due is tested. No service draws bytes yet.
+abbrev pub before_slots : {V : Type 0} → Calls V → Shared V → List Sample → CryptographicRequest → Ready V
+before_slots calls shared events what =
+    ready_after shared (tested calls shared.engine (use_counted shared.public) shared.tests_passed (due_at_first_use shared.tests_passed (test_for what))) events
 
 -- At the slots: what each service does, with the engine and the bytes drawn.
 abbrev pub service_at : {V : Type 0} → Calls V → V → List ℕ → List Slot → CryptographicRequest → SlotsResult V
@@ -43,9 +48,8 @@ abbrev pub after_slots : {V : Type 0} → Shared V → Shared V
 after_slots shared = if is_period_over shared.public then tests_forgotten shared (sent_to_tests shared.public) else shared
 
 -- a cryptographic service, whatever its status
-abbrev pub cryptographic_step : {V : Type 0} → Calls V → MachineState V → List Sample → CryptographicRequest → Stepped V
-cryptographic_step calls s events what =
-    let ready = before_slots s.shared events what in
+abbrev pub served : {V : Type 0} → Calls V → MachineState V → Ready V → CryptographicRequest → Stepped V
+served calls s ready what =
     let result = at_slots calls ready ready.refused s.slots what in
     record {
       machine = record s { shared = after_slots (record ready.shared { engine = result.engine }); slots = result.slots };
@@ -54,6 +58,9 @@ cryptographic_step calls s events what =
       payload = result.answer.payload;
       left = ready.left;
     }
+
+abbrev pub cryptographic_step : {V : Type 0} → Calls V → MachineState V → List Sample → CryptographicRequest → Stepped V
+cryptographic_step calls s events what = served calls s (before_slots calls s.shared events what) what
 
 -- the use of a service that a request makes: the MAC's length where it has one, and the slots that it names
 abbrev pub use_of : CryptographicRequest → ServiceUse

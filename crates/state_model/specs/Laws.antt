@@ -1,5 +1,5 @@
 -- What holds of every step, with any engine.
-use Rattle.std.specs.Prelude.{◌≡◌, ◌≢◌, ◌⊎◌, ◌<◌, ℕ, ◌∷◌, [], List, Option, Some, is_some, false}
+use Rattle.std.specs.Prelude.{◌≡◌, ◌≢◌, ◌↔◌, ◌⊎◌, ℕ, [], List, Some, false}
 use Rattle.bits_core.specs.ByteList.{IsBytes}
 use Rattle.service_table.specs.declared.class.Class.TheVariants as class
 use Rattle.service_table.specs.declared.service.Service.{Service}
@@ -9,14 +9,14 @@ use Rattle.service_table.specs.declared.status.Status.{Status}
 use Rattle.service_table.specs.declared.status.Status.TheVariants as status
 use Rattle.service_table.specs.Numbers.{service_numbered}
 use Rattle.service_table.specs.Services.{class_of}
-use Rattle.ssp_slots.specs.Slots.{empty_slot}
+use Rattle.ssp_slots.specs.Slots.{empty_slot, slot_in, row_in, OthersStay}
 use Rattle.outside.specs.declared.traits.Sample.{Sample}
 use Rattle.module_frames.specs.CommandFrames.{CommandFrame}
+use Rattle.module_frames.specs.PublicState.{sequence_block}
 use Rattle.module_frames.specs.Requests as request
 use Rattle.engine_core.specs.Calls.{Calls}
-use Rattle.crypto_services.specs.AtSlots.{slot_at}
-use Rattle.state_model.specs.MachineState.{MachineState, IsWellFormed, state_of}
-use Rattle.state_model.specs.Step.{step, request_at}
+use Rattle.state_model.specs.MachineState.{MachineState, IsWellFormed, state_of, vault_of}
+use Rattle.state_model.specs.Step.{step, request_at, is_in_order, number_taken}
 
 -- a step for a command whose body is bytes keeps the rules
 abbrev pub StepsKeepTheRules : {V : Type 0} → Calls V → Type 0
@@ -28,27 +28,43 @@ DataNeedsARole {V} calls = (s : MachineState V) (events : List Sample) (command 
     → ((step calls s events command).status ≡ status.Ok) × ((state_of s ≡ state.Officer) ⊎ (state_of s ≡ state.User))
     × ((found : Service) × (service_numbered command.service ≡ Some found) × (class_of found ≡ class.Payload))
 
--- ZeroiseAll or Reset that was done leaves all sixteen slots empty, which is zero in each field and byte
+-- ZeroiseAll or Reset that was done leaves all sixteen slots empty, which is zero in each field and byte, and all rows
 abbrev pub ZeroisingEmptiesAll : {V : Type 0} → Calls V → Type 0
 ZeroisingEmptiesAll {V} calls = (s : MachineState V) (events : List Sample) (command : CommandFrame)
     → (service_numbered command.service ≡ Some service.ZeroiseAll) ⊎ (service_numbered command.service ≡ Some service.Reset)
-    → (step calls s events command).status ≡ status.Ok → (id : ℕ) → slot_at (step calls s events command).machine.slots id ≡ empty_slot
+    → (step calls s events command).status ≡ status.Ok → (id : ℕ)
+    → (let after = vault_of (step calls s events command).machine in (slot_in after id ≡ empty_slot) × (row_in after id ≡ 0))
 
--- Zeroise that was done leaves its slot empty, and no other changed
+-- Zeroise that was done leaves its slot and its row empty, and no other changed
 abbrev pub ZeroisingEmptiesOne : {V : Type 0} → Calls V → Type 0
 ZeroisingEmptiesOne {V} calls = (s : MachineState V) (events : List Sample) (command : CommandFrame) (slot : ℕ)
     → request_at (service_numbered command.service) command.body ≡ Some (request.Zeroise slot) → (step calls s events command).status ≡ status.Ok
-    → (slot_at (step calls s events command).machine.slots slot ≡ empty_slot)
-    × ((other : ℕ) → other ≢ slot → slot_at (step calls s events command).machine.slots other ≡ slot_at s.slots other)
+    → (let after = vault_of (step calls s events command).machine in (slot_in after slot ≡ empty_slot) × (row_in after slot ≡ 0) × OthersStay (vault_of s) after slot)
 
--- the refusals that come before anything is done
+-- the refusals of a command in its order that come before anything is done
 abbrev pub IsRefusedAtOnce : Status → Type 0
 IsRefusedAtOnce why = (why ≡ status.UnknownService) ⊎ ((why ≡ status.NotInState) ⊎ (why ≡ status.BadBody))
 
--- such a refusal changes nothing at all, takes no event of noise, and tells nothing
+-- such a refusal changes nothing but that the command's sequence number is taken, takes no event of noise, and tells nothing
 abbrev pub RefusalsChangeNothing : {V : Type 0} → Calls V → Type 0
 RefusalsChangeNothing {V} calls = (s : MachineState V) (events : List Sample) (command : CommandFrame) → IsRefusedAtOnce (step calls s events command).status
+    → ((step calls s events command).machine ≡ number_taken s command.sequence) × ((step calls s events command).left ≡ events) × ((step calls s events command).payload ≡ [])
+
+-- a command is out of order exactly where it has a sequence number that isn't the expected one
+abbrev pub OutOfOrderByTheNumber : {V : Type 0} → Calls V → Type 0
+OutOfOrderByTheNumber {V} calls = (s : MachineState V) (events : List Sample) (command : CommandFrame)
+    → ((step calls s events command).status ≡ status.OutOfOrder) ↔ (is_in_order command.sequence s.shared.public.next_sequence ≡ false)
+
+-- it changes nothing at all then, takes no event of noise, and tells the expected number alone
+abbrev pub OutOfOrderChangesNothing : {V : Type 0} → Calls V → Type 0
+OutOfOrderChangesNothing {V} calls = (s : MachineState V) (events : List Sample) (command : CommandFrame) → (step calls s events command).status ≡ status.OutOfOrder
     → ((step calls s events command).machine ≡ s) × ((step calls s events command).left ≡ events) × ((step calls s events command).payload ≡ [])
+    × ((step calls s events command).block ≡ sequence_block s.shared.public)
+
+-- the sequence number that is expected after a command in its order: another only after a numbered one, whatever became of it
+abbrev pub NumbersAreTaken : {V : Type 0} → Calls V → Type 0
+NumbersAreTaken {V} calls = (s : MachineState V) (events : List Sample) (command : CommandFrame) → (step calls s events command).status ≢ status.OutOfOrder
+    → (step calls s events command).machine.shared.public.next_sequence ≡ (number_taken s command.sequence).shared.public.next_sequence
 
 -- the refusals of a slot
 abbrev pub IsRefusedBySlot : Status → Type 0

@@ -10,3 +10,4 @@ pub mod ModuleView
 pub mod Represents
 pub mod ModuleInvariant
 pub mod Permission
+pub mod SelfTesting

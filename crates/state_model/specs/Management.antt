@@ -7,15 +7,16 @@ use Rattle.module_frames.specs.declared.public_state.PublicState.{PublicState}
 use Rattle.module_frames.specs.PublicState.{no_block}
 use Rattle.module_frames.specs.PublicEffects.{powered_on, tests_requested, test_done, role_selected, was_reset, entry_begun, entry_ended}
 use Rattle.ssp_slots.specs.declared.slot.Slot.{Slot}
-use Rattle.ssp_slots.specs.Slots.{empty_slot}
+use Rattle.ssp_slots.specs.Slots.{zeroised_in, zeroised_all}
 use Rattle.outside.specs.declared.traits.Sample.{Sample}
 use Rattle.engine_core.specs.Calls.{Calls}
-use Rattle.crypto_services.specs.AtSlots.{SlotsResult, on_slot, on_no_slot, refusal, with_slot_at}
+use Rattle.crypto_services.specs.AtSlots.{SlotsResult, on_slot, on_no_slot, refusal}
 use Rattle.state_model.specs.declared.entry.Entry.{Entry}
 use Rattle.state_model.specs.declared.entry.Target.{Target}
 use Rattle.state_model.specs.Entries.{no_entry, begun_entry, with_piece, entry_length}
 use Rattle.state_model.specs.Commit.{commit_at, entered}
-use Rattle.state_model.specs.MachineState.{Shared, MachineState, no_slots}
+use Rattle.state_model.specs.SelfTesting.{Tested, tested, test_due}
+use Rattle.state_model.specs.MachineState.{Shared, MachineState, no_slots, no_ancestry, vault_of, with_vault}
 
 -- what a step leaves, the events of noise that are left among it, and what it answers
 pub record Stepped (V : Type 0) : Type 0 where
@@ -52,17 +53,28 @@ power_on s period = with_public s (powered_on period s.shared.public)
 abbrev pub request_tests : {V : Type 0} → MachineState V → MachineState V
 request_tests s = record s { shared = tests_forgotten s.shared (tests_requested s.shared.public) }
 
--- TestStep. No step makes a test yet.
-abbrev pub test_step : {V : Type 0} → MachineState V → MachineState V
-test_step s = with_public s (test_done s.shared.public)
+-- what tests and their judgement leave of all that no key reaches
+abbrev pub with_tested : {V : Type 0} → Shared V → Tested V → Shared V
+with_tested shared tests = record shared { public = tests.judgement.public; tests_passed = tests.judgement.tests_passed; engine = tests.engine }
+
+-- after a test that passed the next is due, and after the last one it is back where tests return
+abbrev pub after_test : {V : Type 0} → MachineState V → Shared V → Option Status → List Sample → Stepped V
+after_test s shared None events = done (record s { shared = record shared { public = test_done shared.public } }) no_block events
+after_test s shared (Some why) events = answered (record s { shared = shared }) why no_block events
+
+-- TestStep: the test that is due is made
+abbrev pub test_step : {V : Type 0} → Calls V → MachineState V → List Sample → Stepped V
+test_step calls s events =
+    let tests = tested calls s.shared.engine s.shared.public s.shared.tests_passed (test_due s.shared.public.tests_done) in
+    after_test s (with_tested s.shared tests) tests.judgement.refused events
 
 -- SelectRole
 abbrev pub select_role : {V : Type 0} → MachineState V → ℕ → MachineState V
 select_role s role = with_public s (role_selected role s.shared.public)
 
--- Reset: all slots are empty, nothing is entered, and no test or sample counts any more; the period and the engine stay
+-- Reset: all slots and rows are empty, nothing is entered, and no test or sample counts any more; the period and the engine stay
 abbrev pub reset : {V : Type 0} → MachineState V → MachineState V
-reset s = record { shared = record (tests_forgotten s.shared (was_reset s.shared.public)) { samples = [] }; slots = no_slots; entry = no_entry }
+reset s = record { shared = record (tests_forgotten s.shared (was_reset s.shared.public)) { samples = []; ancestry = no_ancestry }; slots = no_slots; entry = no_entry }
 
 -- EntryBegin: a parameter is entered for this target. The slot isn't looked at.
 abbrev pub entry_begin : {V : Type 0} → MachineState V → Target → MachineState V
@@ -94,10 +106,10 @@ entry_commit calls s check events =
     let result = committed calls s s.entry.target check in
     answered (entry_over (with_slots s result.engine result.slots)) result.answer.status no_block events
 
--- Zeroise: the slot is empty, and no other changes
+-- Zeroise: the slot and its row are empty, and no other changes
 abbrev pub zeroise : {V : Type 0} → MachineState V → ℕ → MachineState V
-zeroise s slot = record s { slots = with_slot_at s.slots slot empty_slot }
+zeroise s slot = with_vault s (zeroised_in (vault_of s) slot)
 
--- ZeroiseAll: all slots are empty
+-- ZeroiseAll: all slots and rows are empty
 abbrev pub zeroise_all : {V : Type 0} → MachineState V → MachineState V
-zeroise_all s = record s { slots = no_slots }
+zeroise_all s = with_vault s zeroised_all

@@ -1,5 +1,4 @@
 -- How a module's fields are seen, and what holds of them.
-use Rattle.std.specs.Prelude.{ℕ, List}
 use Rattle.state_model.specs.declared.module.Module.TheInside.{Inside}
 use Rattle.state_model.specs.ModuleView.{ModuleView}
 use Rattle.state_model.specs.Represents.{IsRepresented}

@@ -1,5 +1,5 @@
 -- The bridge between a module and the machine.
-use Rattle.std.specs.Prelude.{◌≡◌, ◌≢◌, ℕ, List, []}
+use Rattle.std.specs.Prelude.{◌≡◌, ◌≢◌, ℕ, List}
 use Rattle.noise_health.specs.Counts.{Counts}
 use Rattle.service_table.specs.declared.state.State.TheVariants as state
 use Rattle.service_table.specs.declared.status.Status.{Status}
@@ -14,7 +14,7 @@ use Rattle.state_model.specs.Step.{reply_to}
 -- the machine that a module is, with the samples that its counters count
 abbrev pub machine_of : {V : Type 0} → ModuleView V → List ℕ → MachineState V
 machine_of m samples = record {
-  shared = record { public = m.public; tests_passed = m.tests_passed; engine = m.engine; samples = samples };
+  shared = record { public = m.public; tests_passed = m.tests_passed; engine = m.engine; samples = samples; ancestry = m.vault.rows };
   slots = m.vault.slots;
   entry = m.entry;
 }

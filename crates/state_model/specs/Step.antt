@@ -1,5 +1,5 @@
 -- One step of the machine.
-use Rattle.std.specs.Prelude.{ℕ, List, Bool, false, Option, Some, None, if◌then◌else◌}
+use Rattle.std.specs.Prelude.{ℕ, ◌==◌, List, Bool, true, false, Option, Some, None, if◌then◌else◌}
 use Rattle.service_table.specs.declared.service.Service.{Service}
 use Rattle.service_table.specs.declared.status.Status.{Status}
 use Rattle.service_table.specs.declared.status.Status.TheVariants as status
@@ -11,19 +11,20 @@ use Rattle.module_frames.specs.CommandFrames.{CommandFrame}
 use Rattle.module_frames.specs.ReplyFrames.{ReplyFrame}
 use Rattle.module_frames.specs.Requests.{RequestValue, request_of}
 use Rattle.module_frames.specs.Requests as request
-use Rattle.module_frames.specs.PublicState.{no_block, status_block, version_block}
+use Rattle.module_frames.specs.PublicState.{no_block, status_block, sequence_block, version_block}
+use Rattle.module_frames.specs.PublicEffects.{sequence_taken}
 use Rattle.engine_core.specs.Calls.{Calls}
 use Rattle.crypto_services.specs.AtSlots.{slot_at}
 use Rattle.crypto_services.specs.Indicator.{indicator}
 use Rattle.state_model.specs.SlotBlock.{slot_block}
 use Rattle.state_model.specs.MachineState.{MachineState, state_of}
-use Rattle.state_model.specs.Management.{Stepped, refused, done, power_on, request_tests, test_step, select_role, reset, entry_begin, entry_bytes, entry_commit, entry_over, zeroise, zeroise_all}
+use Rattle.state_model.specs.Management.{Stepped, answered, refused, done, with_public, power_on, request_tests, test_step, select_role, reset, entry_begin, entry_bytes, entry_commit, entry_over, zeroise, zeroise_all}
 use Rattle.state_model.specs.Cryptographic.{cryptographic_step, use_of}
 
 -- what is done for a request; three services tell something in the block
 abbrev pub perform : {V : Type 0} → Calls V → MachineState V → List Sample → RequestValue → Stepped V
 perform calls s events (request.PowerOn period) = done (power_on s period) no_block events
-perform calls s events request.TestStep = done (test_step s) no_block events
+perform calls s events request.TestStep = test_step calls s events
 perform calls s events request.RequestTests = done (request_tests s) no_block events
 perform calls s events request.ShowStatus = done s (status_block s.shared.public s.shared.tests_passed) events
 perform calls s events request.ShowVersion = done s version_block events
@@ -49,9 +50,26 @@ dispatch calls s events None body = refused s status.UnknownService events
 dispatch calls s events (Some service) body =
     if is_permitted service (state_of s) then dispatch_request calls s events (request_of service body) else refused s status.NotInState events
 
--- A step for a command, where these events of noise are left.
+-- whether a command comes in its order: without a sequence number, or with the one that is expected
+abbrev pub is_in_order : Option ℕ → ℕ → Bool
+is_in_order None expected = true
+is_in_order (Some number) expected = number == expected
+
+-- the number of a command that comes in its order is taken, whatever becomes of the command
+abbrev pub number_taken : {V : Type 0} → MachineState V → Option ℕ → MachineState V
+number_taken s None = s
+number_taken s (Some number) = with_public s (sequence_taken s.shared.public)
+
+-- a command out of its order changes nothing, and is told the number that is expected
+abbrev pub out_of_order : {V : Type 0} → MachineState V → List Sample → Stepped V
+out_of_order s events = answered s status.OutOfOrder (sequence_block s.shared.public) events
+
+-- A step for a command, where these events of noise are left: before all else a command is refused that comes out of its order.
 unfoldable pub step : {V : Type 0} → Calls V → MachineState V → List Sample → CommandFrame → Stepped V
-step calls s events command = dispatch calls s events (service_numbered command.service) command.body
+step calls s events command =
+    if is_in_order command.sequence s.shared.public.next_sequence
+    then dispatch calls (number_taken s command.sequence) events (service_numbered command.service) command.body
+    else out_of_order s events
 
 -- the request that a command makes, where its service is known and its body is of the form
 abbrev pub request_at : Option Service → List ℕ → Option RequestValue
@@ -81,6 +99,7 @@ indicated (Some (request.Cryptographic what)) why slots = indicator (use_of what
 abbrev pub reply_to : {V : Type 0} → CommandFrame → Stepped V → ReplyFrame
 reply_to command after = record {
   service = command.service;
+  sequence = command.sequence;
   status = after.status;
   state = state_of after.machine;
   approved = indicated (request_at (service_numbered command.service) command.body) after.status after.machine.slots;

@@ -1,5 +1,6 @@
 // The cryptographic services, each with a port over the payload that adds bytes only where the service gives data.
 ghost use Rattle.std.specs.Prelude.{◌≡◌, []};
+ghost use Rattle.bits_core.specs.declared.limits.TheConstants.{LARGEST_PAYLOAD};
 ghost use Rattle.bits_core.specs.OutboxContents.{holding};
 ghost use Rattle.ssp_slots.specs.Slots.{AreWellFormed};
 ghost use Rattle.module_frames.specs.Requests.{CryptographicRequest, Cryptographic, request_value, IsCryptographicInRange};
@@ -17,11 +18,11 @@ pub fn run_cryptographic_service<E: Engine>(
     request: &Request<'_>,
     payload: &mut Outbox,
 ) -> Outcome
-    requires payload { payload.old ≡ holding [] 65664 }
+    requires payload { payload.old ≡ holding [] LARGEST_PAYLOAD }
     requires cryptographic { (what : CryptographicRequest) × (request_value request.now ≡ Cryptographic what) × IsCryptographicInRange what }
     ensures serves { (what : CryptographicRequest) → request_value request.now ≡ Cryptographic what →
         Serves (use_of what) (service_at E.calls parts.old.engine [] parts.old.vault.slots what) parts.old parts.new result payload.new.bytes }
-    ensures room { payload.new.room ≡ 65664 }
+    ensures room { payload.new.room ≡ LARGEST_PAYLOAD }
     ensures well_formed { AreWellFormed parts.old.vault → AreWellFormed parts.new.vault }
 {
     match *request {

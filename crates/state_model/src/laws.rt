@@ -1,6 +1,6 @@
 // Laws of the machine, each the contract of a function without a body.
 ghost use Rattle.state_model.specs.MachineState.{IsWellFormed, initial_state};
-ghost use Rattle.state_model.specs.Laws.{StepsKeepTheRules, DataNeedsARole, ZeroisingEmptiesAll, ZeroisingEmptiesOne, RefusalsChangeNothing, RefusalsChangeNoSlot};
+ghost use Rattle.state_model.specs.Laws.{StepsKeepTheRules, DataNeedsARole, ZeroisingEmptiesAll, ZeroisingEmptiesOne, RefusalsChangeNothing, RefusalsChangeNoSlot, OutOfOrderByTheNumber, OutOfOrderChangesNothing, NumbersAreTaken};
 
 use engine_core::Engine;
 
@@ -16,14 +16,23 @@ pub fn data_needs_a_role<E: Engine>()
     ensures { DataNeedsARole E.calls }
 {}
 
-/// After ZeroiseAll and Reset all slots are empty. After Zeroise that one is, and no other has changed.
+/// After ZeroiseAll and Reset all slots and rows are empty. After Zeroise that one is with its row, and no other has changed.
 pub fn zeroising_empties<E: Engine>()
     ensures all { ZeroisingEmptiesAll E.calls }
     ensures one { ZeroisingEmptiesOne E.calls }
 {}
 
-/// A command that is unknown, not permitted or not of its form changes nothing at all, and one that a slot refuses changes no slot.
+/// A command that is unknown, not permitted or not of its form changes nothing but that its sequence number is taken, and one that a
+/// slot refuses changes no slot.
 pub fn refusals_change_nothing<E: Engine>()
     ensures at_once { RefusalsChangeNothing E.calls }
     ensures by_slot { RefusalsChangeNoSlot E.calls }
+{}
+
+/// A command is out of order exactly where it has a sequence number that isn't the expected one, and changes nothing at all then. In any
+/// other command a sequence number is taken, whatever became of it, and without one the expected number stays.
+pub fn numbers_are_in_order<E: Engine>()
+    ensures late { OutOfOrderByTheNumber E.calls }
+    ensures refused { OutOfOrderChangesNothing E.calls }
+    ensures taken { NumbersAreTaken E.calls }
 {}

@@ -6,15 +6,17 @@ ghost use Rattle.outside.specs.declared.traits.Sample.{Sample};
 ghost use Rattle.outside.specs.Explained.{Explained};
 ghost use Rattle.outside.specs.Faults.{FaultCounted};
 ghost use Rattle.module_frames.specs.Requests.{CryptographicRequest, Cryptographic, request_value, service_for, IsInRange, IsCryptographicInRange};
-ghost use Rattle.module_frames.specs.PublicState.{status_block, no_block};
+ghost use Rattle.module_frames.specs.PublicState.{status_block, sequence_block, no_block};
 ghost use Rattle.module_frames.specs.PublicEffects.{is_period_over, sent_to_tests};
 ghost use Rattle.bits_core.specs.Parameters.{length_fits};
+ghost use Rattle.bits_core.specs.declared.limits.TheConstants.{LARGEST_PAYLOAD};
 ghost use Rattle.bits_core.specs.OutboxContents.{holding};
 ghost use Rattle.crypto_services.specs.AtSlots.{slot_at};
 ghost use Rattle.state_model.specs.MachineState.{MachineState, initial_state, state_of};
 ghost use Rattle.state_model.specs.Management.{power_on, request_tests, test_step, select_role, reset, entry_begin, entry_bytes, entry_commit, entry_over, zeroise, zeroise_all};
 ghost use Rattle.state_model.specs.Cryptographic.{cryptographic_step, use_of};
-ghost use Rattle.state_model.specs.Step.{step, perform, indicated, request_at};
+ghost use Rattle.state_model.specs.Step.{step, dispatch, perform, indicated, request_at, is_in_order, number_taken};
+ghost use Rattle.state_model.specs.SelfTesting.{stepped_with};
 ghost use Rattle.state_model.specs.SlotBlock.{header_block, slot_block};
 ghost use Rattle.state_model.specs.Permission.{IsPermittedIn};
 ghost use Rattle.state_model.specs.Represents.{Represents, IsRepresented, IsServiceResult, Replies};
@@ -22,12 +24,14 @@ ghost use Rattle.state_model.specs.Represents.{Represents, IsRepresented, IsServ
 use crate::commit::commit;
 use crate::cryptographic::run_cryptographic_service;
 use crate::entry::{Entry, Target};
+use crate::self_testing::{due_at_first_use, run_test, test_due, test_for};
 use bits_core::{Header, Outbox, SlotId};
 use crypto_services::{Outcome, Parts};
 use engine_core::Engine;
 use module_frames::{Command, PublicState, Reply, Request, read_request};
 use noise_health::Health;
 use outside::Noise;
+use self_tests::Tested;
 use service_table::{Service, State, Status, is_cryptographic, permitted, service_of};
 use std::alloc::{AllocError, Global};
 use std::marker::Model;
@@ -36,7 +40,7 @@ use std::marker::Model;
 #[derive(Drop)]
 pub struct Module<E: Engine> {
     public: PublicState,
-    tests_passed: u16,
+    tests_passed: Tested,
     parts: Parts<E>,
     entry: Entry,
 }
@@ -78,7 +82,7 @@ fn header_block(length: usize, header: &Header) -> [u8; 12]
     ]
 }
 
-// The outcome of a command that used no cryptographic service.
+// The outcome of a command that did no cryptographic service.
 fn management_outcome(status: Status) -> Outcome
     ensures { result ≡ record { status = status; code = 0; approved = false } }
 {
@@ -89,12 +93,22 @@ fn management_outcome(status: Status) -> Outcome
     }
 }
 
+// The public state after a test of TestStep, and the status.
+fn after_test(public: PublicState, refused: Option<Status>) -> (PublicState, Status)
+    ensures { result ≡ stepped_with public refused }
+{
+    match refused {
+        None => (public.test_done(), Status::Ok),
+        Some(status) => (public, status),
+    }
+}
+
 // The public state and the tests that passed, after a cryptographic service: where the period is over, tests are due.
-fn settled(public: PublicState, tests_passed: u16) -> (PublicState, u16)
+fn settled(public: PublicState, tests_passed: Tested) -> (PublicState, Tested)
     ensures { result ≡ (if is_period_over public then (sent_to_tests public, 0) else (public, tests_passed)) }
 {
     if public.is_period_over() {
-        (public.sent_to_tests(), 0)
+        (public.sent_to_tests(), Tested::empty())
     } else {
         (public, tests_passed)
     }
@@ -108,7 +122,7 @@ impl<E: Engine> Module<E> {
         let parts = Parts::new(alloc, engine)?;
         Ok(Module {
             public: PublicState::unpowered(),
-            tests_passed: 0,
+            tests_passed: Tested::empty(),
             parts,
             entry: Entry::empty(),
         })
@@ -137,15 +151,22 @@ impl<E: Engine> Module<E> {
         ensures { (s : MachineState E) → Represents self.old s → Represents self.new (request_tests s) }
     {
         self.public = self.public.tests_requested();
-        self.tests_passed = 0;
+        self.tests_passed = Tested::empty();
     }
 
-    // TestStep. No step makes a test yet.
-    fn test_step(&mut self)
+    // TestStep: the test that is due is made.
+    fn test_step(&mut self) -> Status
         requires { self.old.public.state ≡ State.SelfTest }
-        ensures { (s : MachineState E) → Represents self.old s → Represents self.new (test_step s) }
+        ensures { (s : MachineState E) (events : List Sample) → Represents self.old s →
+            IsServiceResult (test_step E.calls s events) self.new result no_block [] }
     {
-        self.public = self.public.test_done();
+        let tests_passed = self.tests_passed;
+        let due = test_due(self.public.tests_done);
+        let judged = run_test(&mut self.parts.engine, self.public, tests_passed, due);
+        let (public, status) = after_test(judged.public, judged.refused);
+        self.public = public;
+        self.tests_passed = judged.tests_passed;
+        status
     }
 
     // SelectRole.
@@ -156,12 +177,12 @@ impl<E: Engine> Module<E> {
         self.public = self.public.role_selected(role);
     }
 
-    // Reset: all slots are empty, nothing is entered, and no test or sample counts any more.
+    // Reset: all slots and rows are empty, nothing is entered, and no test or sample counts any more.
     fn reset(&mut self)
         ensures { (s : MachineState E) → Represents self.old s → Represents self.new (reset s) }
     {
         self.public = self.public.was_reset();
-        self.tests_passed = 0;
+        self.tests_passed = Tested::empty();
         self.parts.vault.zeroise_all();
         self.parts.health = Health::new();
         self.entry.clear();
@@ -221,14 +242,14 @@ impl<E: Engine> Module<E> {
         self.entry.clear();
     }
 
-    // Zeroise: the slot is empty.
+    // Zeroise: the slot and its row are empty.
     fn zeroise(&mut self, slot: SlotId)
         ensures { (s : MachineState E) → Represents self.old s → Represents self.new (zeroise s slot) }
     {
         self.parts.vault.zeroise(slot);
     }
 
-    // ZeroiseAll: all slots are empty.
+    // ZeroiseAll: all slots and rows are empty.
     fn zeroise_all(&mut self)
         ensures { (s : MachineState E) → Represents self.old s → Represents self.new (zeroise_all s) }
     {
@@ -250,22 +271,29 @@ impl<E: Engine> Module<E> {
     fn show_status(&self, block: &mut [u8; 12])
         ensures { (s : MachineState E) → Represents self.now s → block.new ≡ status_block s.shared.public s.shared.tests_passed }
     {
-        *block = self.public.status_block(self.tests_passed);
+        *block = self.public.status_block(self.tests_passed.bits());
     }
 
     // Does a cryptographic service: the use is counted before the slots are looked at, and the period may be over after that.
     fn run_cryptographic_service(&mut self, request: &Request<'_>, payload: &mut Outbox) -> Outcome
-        requires payload { payload.old ≡ holding [] 65664 }
+        requires payload { payload.old ≡ holding [] LARGEST_PAYLOAD }
         requires cryptographic { (what : CryptographicRequest) × (request_value request.now ≡ Cryptographic what) × IsCryptographicInRange what }
         requires permitted { is_permitted Service.Hash self.old.public.state ≡ true }
         ensures answer { (s : MachineState E) (events : List Sample) (what : CryptographicRequest) → Represents self.old s → request_value request.now ≡ Cryptographic what →
             IsServiceResult (cryptographic_step E.calls s events what) self.new result.status no_block payload.new.bytes }
         ensures approved { result.approved ≡ indicated (Some (request_value request.now)) result.status self.new.vault.slots }
-        ensures room { payload.new.room ≡ 65664 }
+        ensures room { payload.new.room ≡ LARGEST_PAYLOAD }
     {
+        let tests_passed = self.tests_passed;
         let counted = self.public.use_counted();
+        let due = due_at_first_use(tests_passed, test_for(request));
+        let judged = run_test(&mut self.parts.engine, counted, tests_passed, due);
+        if let Some(status) = judged.refused {
+            self.public = judged.public;
+            return management_outcome(status);
+        }
         let outcome = run_cryptographic_service(&mut self.parts, request, payload);
-        let (public, tests_passed) = settled(counted, self.tests_passed);
+        let (public, tests_passed) = settled(judged.public, judged.tests_passed);
         self.public = public;
         self.tests_passed = tests_passed;
         outcome
@@ -282,7 +310,7 @@ impl<E: Engine> Module<E> {
     {
         match request {
             Request::PowerOn { period } => self.power_on(period),
-            Request::TestStep => self.test_step(),
+            Request::TestStep => return self.test_step(),
             Request::RequestTests => self.request_tests(),
             Request::ShowStatus => self.show_status(block),
             Request::ShowVersion => *block = VERSION,
@@ -310,15 +338,48 @@ impl<E: Engine> Module<E> {
         Status::Ok
     }
 
-    // Walks the order of refusals, and does what is asked where the command passes.
-    fn dispatch(&mut self, command: &Command, block: &mut [u8; 12], payload: &mut Outbox) -> Outcome
+    // Whether a command with this sequence number, or with none, comes in its order. The number of one that does is taken.
+    fn take_number(&mut self, sequence: Option<u32>) -> bool
+        ensures in_order { result ≡ is_in_order sequence self.old.public.next_sequence }
+        ensures taken { result ≡ true → (s : MachineState E) → Represents self.old s → Represents self.new (number_taken s sequence) }
+        ensures stays { result ≡ false → self.new ≡ self.old }
+    {
+        let Some(number) = sequence else {
+            return true;
+        };
+        if number != self.public.next_sequence {
+            return false;
+        }
+        self.public = self.public.sequence_taken();
+        true
+    }
+
+    // Refuses a command that comes out of its order, and dispatches any other.
+    fn step(&mut self, command: &Command, block: &mut [u8; 12], payload: &mut Outbox) -> Outcome
         requires block { block.old ≡ no_block }
-        requires payload { payload.old ≡ holding [] 65664 }
+        requires payload { payload.old ≡ holding [] LARGEST_PAYLOAD }
         ensures answer { (s : MachineState E) (events : List Sample) → Represents self.old s →
             let after = step E.calls s events command.now in
             IsServiceResult after self.new result.status block.new payload.new.bytes × (after.left ≡ events) }
         ensures approved { result.approved ≡ indicated (request_at (service_numbered command.now.service) command.now.body) result.status self.new.vault.slots }
-        ensures room { payload.new.room ≡ 65664 }
+        ensures room { payload.new.room ≡ LARGEST_PAYLOAD }
+    {
+        if !self.take_number(command.sequence()) {
+            *block = self.public.sequence_block();
+            return management_outcome(Status::OutOfOrder);
+        }
+        self.dispatch(command, block, payload)
+    }
+
+    // Walks the order of refusals, and does what is asked where the command passes.
+    fn dispatch(&mut self, command: &Command, block: &mut [u8; 12], payload: &mut Outbox) -> Outcome
+        requires block { block.old ≡ no_block }
+        requires payload { payload.old ≡ holding [] LARGEST_PAYLOAD }
+        ensures answer { (s : MachineState E) (events : List Sample) → Represents self.old s →
+            let after = dispatch E.calls s events (service_numbered command.now.service) command.now.body in
+            IsServiceResult after self.new result.status block.new payload.new.bytes × (after.left ≡ events) }
+        ensures approved { result.approved ≡ indicated (request_at (service_numbered command.now.service) command.now.body) result.status self.new.vault.slots }
+        ensures room { payload.new.room ≡ LARGEST_PAYLOAD }
     {
         let Some(service) = service_of(command.service()) else {
             return management_outcome(Status::UnknownService);
@@ -348,8 +409,10 @@ impl<E: Engine> Module<E> {
         // Opened, so that the module's rules are known of what it finds.
         let _ = &self.public;
         reply.clear();
-        let outcome = self.dispatch(command, &mut reply.block, &mut reply.payload);
+        let outcome = self.step(command, &mut reply.block, &mut reply.payload);
+        let number = command.sequence();
         reply.service = command.service();
+        reply.sequence = number;
         reply.status = outcome.status;
         reply.state = self.public.state;
         reply.approved = outcome.approved;

@@ -6,12 +6,12 @@ use Rattle.aes_core.specs.Key.{aes, aes_inverse}
 use Rattle.aes_spec.proofs.EncryptionUndoes.{aes-aes_inverse}
 use Rattle.key_wrap.specs.InPlace.{stepped}
 use Rattle.bits_core.proofs.Bytes.{IsBytes-take, IsBytes-drop}
-use Rattle.key_wrap.proofs.Bytes.{bytes-xor, bytes-number, two_semiblocks}
+use Rattle.key_wrap.proofs.BlockBytes.{bytes-xor, bytes-number, two_semiblocks}
 use Rattle.key_wrap.proofs.Undone.{take-half, drop-half, sum-half, stepped_again, block-long, block-halves}
 use Rattle.key_wrap.proofs.semiblocks.unstep.Goals as goal
 
 pub returns-clause-opened : goal.returns-clause-opened
-returns-clause-opened c = λ key bytes is.
+returns-clause-opened c = λ key is.
     let i = c.args.i in
     let text = c.args.text.now in
     let block = c.gather-block.result in
@@ -28,7 +28,7 @@ returns-clause-opened c = λ key bytes is.
     (bytes-xor (take 8 block) number (sym (take-half block long)) (IsBytes-take 8 block small) (bytes-number c.args.t)) (IsBytes-drop 8 block small) in
     let closed : aes key opened ≡ xor_bytes (take 8 text) number ++ take 8 (drop (8 * i + 8) text) =
     ap (aes key) (c.decrypt.ensures key is ∙ ap (aes_inverse key) given)
-    ∙ aes-aes_inverse key (xor_bytes (take 8 block) number ++ drop 8 block) bytes state
+    ∙ aes-aes_inverse key (xor_bytes (take 8 block) number ++ drop 8 block) is.bytes state
     ∙ block-halves (λ (u v : List ℕ). xor_bytes u number ++ v) i text block within c.gather-block.ensures.block in
     sym (ap (stepped (aes key) c.args.t i) c.scatter.ensures ∙ stepped_again (aes key) c.args.t i text opened within c.decrypt.array_long closed)
 

@@ -2,7 +2,7 @@ use Rattle.std.proofs.Common.{◌≡◌, ◌-◌, ◌*◌, ◌/◌, ℕ, length,
 use Rattle.aes_core.specs.Key.{aes}
 use Rattle.key_wrap.specs.InPlace.{steps}
 use Rattle.key_wrap.proofs.Cipher.{aes-long}
-use Rattle.key_wrap.proofs.Later.{steps-none, steps-more}
+use Rattle.key_wrap.proofs.RemainingSteps.{steps-none, steps-more}
 use Rattle.key_wrap.proofs.Wraps.{wrapped-steps}
 use Rattle.key_wrap.proofs.semiblocks.wrap_semiblocks.Goals as goal
 

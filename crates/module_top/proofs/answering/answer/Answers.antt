@@ -1,25 +1,29 @@
-use Rattle.std.proofs.Common.{subst, sym}
+use Rattle.std.proofs.Common.{subst}
 use Rattle.outside.specs.Contents.{Appends}
 use Rattle.outside.proofs.Explanations.{explained_by}
-use Rattle.module_frames.specs.ReplyFrames.{ReplyFrame, reply_encoding}
-use Rattle.module_top.specs.Chunks.{AppendsPart}
+use Rattle.module_frames.specs.ReplyFrames.{ReplyFrame}
+use Rattle.module_top.specs.PartialWrites.{AppendsPart}
 use Rattle.module_top.proofs.ResultCases.{on_err}
 use Rattle.module_top.proofs.answering.answer.Goals as goal
 
 pub returns-clause-whole : goal.returns-clause-whole
 returns-clause-whole g c =
-    explained_by _ _ c.command.ensures.step (λ events left stepped. record {
+    explained_by _ _ c.command-2.ensures.step (λ events left stepped. record {
+      command = c.command.result.now;
+      encoded = c.command.ensures;
       each = λ s represents.
-          let did = stepped s represents in
-          let Went : ReplyFrame → Type 0 = λ r. Appends (g.K.Sink.gained c.args.replies.now) (reply_encoding r) (g.K.Sink.gained c.send.new.replies) in
-          (did.0.represents, did.1, subst Went did.0.answer c.in_ok-send.ensures.whole);
+          let result = stepped s represents in
+          let Written : ReplyFrame → Type 0 = λ r. Appends (g.K.Sink.gained c.args.replies.now) (g.C.Codec.grammar.reply_encoding r) (g.K.Sink.gained c.write.new.replies) in
+          (result.0.represents, result.1, subst Written result.0.answer c.in_ok-write.ensures.whole);
     })
 
-pub returns-in_err-send-clause-part : goal.returns-in_err-send-clause-part
-returns-in_err-send-clause-part g c =
-    on_err _ (explained_by _ _ c.command.ensures.step (λ events left stepped. record {
+pub returns-in_err-write-clause-part : goal.returns-in_err-write-clause-part
+returns-in_err-write-clause-part g c =
+    on_err _ (explained_by _ _ c.command-2.ensures.step (λ events left stepped. record {
+      command = c.command.result.now;
+      encoded = c.command.ensures;
       each = λ s represents.
-          let did = stepped s represents in
-          let Went : ReplyFrame → Type 0 = λ r. AppendsPart (g.K.Sink.gained c.args.replies.now) (reply_encoding r) (g.K.Sink.gained c.send.new.replies) in
-          (did.0.represents, did.1, subst Went did.0.answer c.in_err-send.ensures.part);
+          let result = stepped s represents in
+          let Written : ReplyFrame → Type 0 = λ r. AppendsPart (g.K.Sink.gained c.args.replies.now) (g.C.Codec.grammar.reply_encoding r) (g.K.Sink.gained c.write.new.replies) in
+          (result.0.represents, result.1, subst Written result.0.answer c.in_err-write.ensures.part);
     }))

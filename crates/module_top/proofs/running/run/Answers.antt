@@ -3,6 +3,7 @@ use Rattle.std.specs.Prelude.{map}
 use Rattle.std.specs.String.{string_bytes}
 use Rattle.module_top.specs.declared.words.Form.{Form}
 use Rattle.module_top.specs.declared.words.Form.TheVariants as form
+use Rattle.module_top.specs.FrameGrammar.{frame_grammar, frame_grammar_is_lawful}
 use Rattle.module_top.specs.Program.{form_of, exit_status, IsOutputOf}
 use Rattle.module_top.proofs.ProgramOutputs.{never_usage, never_memory, read_fault_of, write_fault_of, output_of}
 use Rattle.module_top.proofs.running.run.Goals as goal
@@ -27,7 +28,7 @@ returns-in-Ok-clause-output g c bytes before told gained =
     let Out : Option Form → Type 0 = λ of. exit_status c.in-Ok.ended ≢ 5 → exit_status c.in-Ok.ended ≢ 6 →
     (out : List ℕ) × IsOutputOf g.E.Engine.calls c.args.engine of bytes (exit_status c.in-Ok.ended) out × (g.K.Sink.gained c.open_and_serve.new.replies ≡ Some (before ++ out)) in
     rw c.exit_status.ensures
-    (λ no_read no_write _. subst Out (sym is) (output_of g.E.Engine.calls c.args.engine c.in-Ok.ended _ c.in-Ok.ensures.served.0 bytes before c.in-Ok.ensures.served.1 _ served) no_read no_write)
+    (λ no_read no_write _. subst Out (sym is) (output_of frame_grammar g.E.Engine.calls frame_grammar_is_lawful c.args.engine c.in-Ok.ended _ c.in-Ok.ensures.served.0 bytes before c.in-Ok.ensures.served.1 _ served) no_read no_write)
 
 pub returns-in-Ok-clause-served : goal.returns-in-Ok-clause-served
 returns-in-Ok-clause-served g c no_usage no_memory = (c.in-Ok.ended, c.exit_status.ensures, c.in-Ok.ensures.served.0, c.in-Ok.ensures.served.1, c.in-Ok.ensures.served.2)

@@ -1,4 +1,4 @@
-use Rattle.service_table.proofs.Table.{services_keep, states_keep, statuses_keep, payload_is_of_the_answering, payload_needs_a_role, cryptographic_by_number, cryptographic_needs_a_role, cryptographic_is_approved, other_is_not_approved, short_mac_is_not_approved, no_mac_no_length, each_is_permitted, parameters_are_the_officers, entry_goes_on_in_entry, keys_are_the_users, status_is_shown, off_permits, init_permits, self_test_permits, approved_permits, error_permits}
+use Rattle.service_table.proofs.Table.{services_keep, states_keep, statuses_keep, payload_is_of_the_answering, payload_needs_a_role, cryptographic_by_number, cryptographic_needs_a_role, cryptographic_is_approved, other_is_not_approved, short_mac_is_not_approved, no_mac_no_length, each_is_permitted, parameters_are_the_officers, entry_goes_on_in_entry, keys_are_the_users, status_is_shown, cryptographic_is_tested, digests_are_tested, macs_are_tested, off_permits, init_permits, self_test_permits, approved_permits, error_permits}
 use Rattle.service_table.proofs.laws.table_laws.Goals as goal
 
 pub returns-clause-services : goal.returns-clause-services
@@ -48,6 +48,15 @@ returns-clause-users c = keys_are_the_users
 
 pub returns-clause-shown : goal.returns-clause-shown
 returns-clause-shown c = status_is_shown
+
+pub returns-clause-tested : goal.returns-clause-tested
+returns-clause-tested c = cryptographic_is_tested
+
+pub returns-clause-digests : goal.returns-clause-digests
+returns-clause-digests c = digests_are_tested
+
+pub returns-clause-macs : goal.returns-clause-macs
+returns-clause-macs c = macs_are_tested
 
 pub returns-clause-off : goal.returns-clause-off
 returns-clause-off c = off_permits

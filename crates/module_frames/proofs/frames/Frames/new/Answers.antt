@@ -1,5 +1,5 @@
 use Rattle.std.proofs.Common.{refl, arith}
-use Rattle.module_frames.proofs.Headers.{first_fault-nil}
+use Rattle.module_frames.proofs.Headers.{first_fault-nil, not_whole}
 use Rattle.module_frames.proofs.Holding.{nothing_is_incomplete}
 use Rattle.module_frames.proofs.frames.Frames.new.Goals as goal
 
@@ -7,11 +7,13 @@ pub invariant_of-result : goal.invariant_of-result
 invariant_of-result c = record {
   room = refl;
   few = omega arith;
+  most = omega arith;
   spare = refl;
   no_fault = first_fault-nil;
   headless = λ h. c.in_ok-command.ensures;
-  headed = λ h. absurd (omega arith);
-  within = λ h. absurd (omega arith);
+  service = λ h. absurd (not_whole _ h);
+  sequence = λ h. absurd (not_whole _ h);
+  within = λ h. absurd (not_whole _ h);
   fresh = λ offset h. refl;
   short = rw c.in_ok-command.ensures (omega arith);
 }

@@ -1,9 +1,6 @@
-use Rattle.std.proofs.Common.{◌≡◌, [], List, sym, subst, ap, ◌∙◌}
-use Rattle.outside.specs.declared.traits.Sample.{Sample}
+use Rattle.std.proofs.Common.{[], sym, subst, ap, ◌∙◌}
 use Rattle.outside.proofs.Explanations.{explained_none}
-use Rattle.module_frames.specs.Replies.{frame_of}
 use Rattle.state_model.specs.ModuleView.{ModuleView}
-use Rattle.state_model.specs.MachineState.{MachineState}
 use Rattle.state_model.specs.Represents.{Represents, IsRepresented}
 use Rattle.state_model.specs.Step.{step}
 use Rattle.state_model.proofs.Replying.{replied}
@@ -13,13 +10,13 @@ use Rattle.state_model.proofs.module.Module.command.Goals as goal
 pub returns-clause-step : goal.returns-clause-step
 returns-clause-step g c =
     explained_none _ _ (λ events s represents.
-    let result = c.dispatch-outcome.ensures.answer s events represents in
+    let result = c.step-outcome.ensures.answer s events represents in
     let public = ap (λ (m : ModuleView g.row.E.Denot). m.public) c.self-2.view_is in (
       record {
         represents = result.0.represents;
-        answer = rw (c.service-reply.ensures, public)
-            (replied c.args.command.now (step g.E.Engine.calls s events c.args.command.now) c.dispatch-outcome.new.self c.dispatch-outcome.result.approved c.dispatch-outcome.result.status
-            c.dispatch-outcome.new.block c.dispatch-outcome.new.payload.bytes result.0 c.dispatch-outcome.ensures.approved);
+        answer = rw (c.service-reply.ensures, c.sequence-number.ensures, public)
+            (replied c.args.command.now (step g.E.Engine.calls s events c.args.command.now) c.step-outcome.new.self c.step-outcome.result.approved c.step-outcome.result.status
+            c.step-outcome.new.block c.step-outcome.new.payload.bytes result.0 c.step-outcome.ensures.approved);
       },
       result.1,
     ))
@@ -27,7 +24,7 @@ returns-clause-step g c =
 pub returns-clause-noise_failed : goal.returns-clause-noise_failed
 returns-clause-noise_failed g c fault =
     let At : ModuleView g.row.E.Denot → Type 0 = λ m. Represents m c.self.invariant.0 in
-    let result = c.dispatch-outcome.ensures.answer c.self.invariant.0 [] (subst At c.self.view_is c.self.invariant.1) in
+    let result = c.step-outcome.ensures.answer c.self.invariant.0 [] (subst At c.self.view_is c.self.invariant.1) in
     absurd (no_noise_fault g.E.Engine.calls c.self.invariant.0 [] c.args.command.now (sym result.0.same_status ∙ fault))
 
 pub returns-clause-represented : goal.returns-clause-represented

@@ -1,4 +1,4 @@
-use Rattle.std.proofs.Common.{◌≡◌, refl, subst, sym, arith}
+use Rattle.std.proofs.Common.{refl, subst, sym, arith}
 use Rattle.state_model.specs.ModuleView.{ModuleView}
 use Rattle.state_model.specs.ModuleInvariant.{view_of}
 use Rattle.state_model.specs.MachineState.{MachineState}

@@ -1,4 +1,4 @@
-use Rattle.std.proofs.Common.{◌≡◌, ◌≤◌, ◌+◌, [], length, refl, subst, sym, arith}
+use Rattle.std.proofs.Common.{◌≤◌, ◌+◌, [], length, refl, subst, sym, arith}
 use Rattle.bits_core.specs.ByteList.{IsBytes}
 use Rattle.service_table.specs.declared.status.Status.TheVariants as status
 use Rattle.module_frames.specs.PublicState.{no_block}

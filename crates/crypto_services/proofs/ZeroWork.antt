@@ -1,0 +1,13 @@
+-- Bytes to work in stay zero where a front of them was wiped.
+use Rattle.std.proofs.Common.{◌≡◌, ◌≤◌, ◌+◌, ◌-◌, ◌++◌, ℕ, List, length, drop, take, ap, ◌∙◌, arith}
+use Rattle.std.proofs.lemmas.List.{drop-replicate}
+use Rattle.bits_core.specs.ByteList.{zeros}
+use Rattle.bits_core.proofs.ZeroPadding.{zeros-append-zeros, take_front, length-zeros}
+
+pub front_wiped : (n m : ℕ) → n ≤ m → zeros n ++ drop n (zeros m) ≡ zeros m
+front_wiped n m within =
+    ap (λ xs. zeros n ++ xs) (drop-replicate n m 0) ∙ zeros-append-zeros n (m - n) ∙ ap zeros (let e : n + (m - n) ≡ m = omega (arith, within) in e)
+
+-- what a lent vector gives back
+pub whole_lent : (n : ℕ) (xs : List ℕ) → take n (zeros n ++ drop (length (zeros n)) xs) ≡ zeros n
+whole_lent n xs = take_front n (zeros n) (drop (length (zeros n)) xs) (length-zeros n)

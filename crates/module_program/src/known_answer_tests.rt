@@ -1,0 +1,222 @@
+// Runs over engines whose known answers are wrong, or are wrong later.
+use crate::service_rows::{HASH_256_ABC, HASH_256_ABC_TURNED};
+use crate::service_tests::{
+    NO_BLOCK, NOTHING, POWER_ON, REQUEST_TESTS, RESET, Row, TESTED, UP, USER, play, play_with_code,
+};
+use crate::tests::{Dialogue, outcome_over};
+use engine_core::Faulty;
+use std::test::Fail;
+
+// The next test of TestStep answers what it shouldn't.
+const STEP_FAILS: Row<'static> = (0x02, &[], 4, 7, NOTHING);
+
+// Once a test failed nothing gives data or changes keys, and no test is made.
+const IN_ERROR: [Row<'static>; 15] = [
+    (0x01, &[0, 0, 0, 3], 2, 7, NOTHING),
+    (0x02, &[], 2, 7, NOTHING),
+    (0x03, &[], 2, 7, NOTHING),
+    (0x05, &[], 0, 7, (0, *b"SYMMOD 01.00", &[])),
+    (0x06, &[1], 2, 7, NOTHING),
+    (0x08, &[3, 3, 0, 0, 0, 0, 0, 100, 4], 2, 7, NOTHING),
+    (0x09, b"Jefe", 2, 7, NOTHING),
+    (0x0a, &[0; 8], 2, 7, NOTHING),
+    (0x0b, &[], 2, 7, NOTHING),
+    (0x0c, &[3], 2, 7, NOTHING),
+    (0x0d, &[], 2, 7, NOTHING),
+    (0x0e, &[3], 2, 7, NOTHING),
+    (0x10, b"\x01abc", 2, 7, NOTHING),
+    (0x11, b"\x03\x01\x20abc", 2, 7, NOTHING),
+    (0x12, b"\x03\x01\x01\x00abc", 2, 7, NOTHING),
+];
+
+// ShowStatus of the state Error: those that passed, the period and the count.
+const NONE_PASSED: Row<'static> = (0x04, &[], 0, 7, NOTHING);
+
+const MAC_PASSED: Row<'static> = (
+    0x04,
+    &[],
+    0,
+    7,
+    (0, [0, 0, 0, 0x10, 0, 0, 0, 0, 0, 0, 0, 0], &[]),
+);
+
+const BOTH_PASSED: Row<'static> = (
+    0x04,
+    &[],
+    0,
+    7,
+    (0, [0, 0, 0x40, 0x10, 0, 0, 0, 0, 0, 0, 0, 0], &[]),
+);
+
+// The one use of a period was counted before its test failed.
+const ONE_COUNTED: Row<'static> = (
+    0x04,
+    &[],
+    0,
+    7,
+    (0, [0, 0, 0x40, 0x10, 0, 0, 0, 1, 0, 0, 0, 1], &[]),
+);
+
+// Plays what comes before a failure, what fails with this error code, the state Error and its end.
+fn fail(
+    dialogue: &mut Dialogue,
+    before: &[Row],
+    failing: Row,
+    code: (u8, u8),
+    shown: Row,
+) -> Result<(), Fail> {
+    play(dialogue, before)?;
+    play_with_code(dialogue, &[failing], code)?;
+    play_with_code(dialogue, &IN_ERROR, code)?;
+    play_with_code(dialogue, &[shown], code)?;
+    play(dialogue, &[RESET])
+}
+
+const TWO_STEPS: [Row<'static>; 3] = [REQUEST_TESTS, TESTED, TESTED];
+
+// A generator's test makes three calls, numbers 7 to 9 of an engine. After Reset, tests that are asked for fail again.
+#[test]
+fn fails_a_test_that_is_due(rt: HostRuntime) -> Result<(), Fail> {
+    for (engine, before, code, shown) in [
+        (
+            Faulty::new(1, 0, 3),
+            [REQUEST_TESTS].as_slice(),
+            (1, 4),
+            NONE_PASSED,
+        ),
+        (
+            Faulty::new(7, 0, 3),
+            TWO_STEPS.as_slice(),
+            (1, 14),
+            MAC_PASSED,
+        ),
+        (
+            Faulty::new(8, 0, 3),
+            TWO_STEPS.as_slice(),
+            (1, 14),
+            MAC_PASSED,
+        ),
+        (
+            Faulty::new(9, 0, 3),
+            TWO_STEPS.as_slice(),
+            (1, 14),
+            MAC_PASSED,
+        ),
+    ] {
+        let mut dialogue = Dialogue::new(rt.alloc());
+        play(&mut dialogue, &[POWER_ON])?;
+        fail(&mut dialogue, before, STEP_FAILS, code, shown)?;
+        fail(&mut dialogue, before, STEP_FAILS, code, shown)?;
+        let (status, replies) = outcome_over(rt.alloc(), engine, &["serve"], &dialogue.stream, 9)?;
+        assert_eq!(rt; status, 0);
+        assert_eq!(rt; replies.bytes(), dialogue.want.as_slice());
+    }
+    Ok(())
+}
+
+const HASH_FAILS: Row<'static> = (0x10, b"\x01abc", 4, 7, NOTHING);
+
+const HASH_ABC: Row<'static> = (0x10, b"\x01abc", 0, 5, (1, NO_BLOCK, &HASH_256_ABC));
+
+const HASH_ABC_TURNED: Row<'static> = (0x10, b"\x01abc", 0, 5, (1, NO_BLOCK, &HASH_256_ABC_TURNED));
+
+// From Off to Approved with period 1.
+const UP_1: [Row<'static>; 6] = [
+    (0x01, &[0, 0, 0, 1], 0, 1, NOTHING),
+    REQUEST_TESTS,
+    TESTED,
+    TESTED,
+    (0x02, &[], 0, 3, NOTHING),
+    USER,
+];
+
+// The end of the period leads to no tests where it failed.
+#[test]
+fn fails_a_first_use(rt: HostRuntime) -> Result<(), Fail> {
+    let mut dialogue = Dialogue::new(rt.alloc());
+    fail(&mut dialogue, &UP_1, HASH_FAILS, (1, 1), ONE_COUNTED)?;
+    let engine = Faulty::new(0, 0, 0);
+    let (status, replies) = outcome_over(rt.alloc(), engine, &["serve"], &dialogue.stream, 7)?;
+    assert_eq!(rt; status, 0);
+    assert_eq!(rt; replies.bytes(), dialogue.want.as_slice());
+    Ok(())
+}
+
+// What was tested isn't tested again while it counts, and is once tests were asked for.
+#[test]
+fn tests_each_algorithm_once(rt: HostRuntime) -> Result<(), Fail> {
+    let mut dialogue = Dialogue::new(rt.alloc());
+    play(&mut dialogue, &UP)?;
+    play(&mut dialogue, &[USER, HASH_ABC, HASH_ABC, HASH_ABC_TURNED])?;
+    let back = [REQUEST_TESTS, TESTED, TESTED, (0x02, &[], 0, 5, NOTHING)];
+    fail(&mut dialogue, &back, HASH_FAILS, (1, 1), BOTH_PASSED)?;
+    let engine = Faulty::new(0, 3, 0);
+    let (status, replies) = outcome_over(rt.alloc(), engine, &["serve"], &dialogue.stream, 7)?;
+    assert_eq!(rt; status, 0);
+    assert_eq!(rt; replies.bytes(), dialogue.want.as_slice());
+    Ok(())
+}
+
+const HASH_PASSED: Row<'static> = (
+    0x04,
+    &[],
+    0,
+    7,
+    (0, [0, 0, 0x40, 0x12, 0, 0, 0, 0, 0, 0, 0, 0], &[]),
+);
+
+const SHA_384: Row<'static> = (0x10, b"\x02abc", 4, 7, NOTHING);
+
+const SHA_512: Row<'static> = (0x10, b"\x03abc", 4, 7, NOTHING);
+
+const HMAC_384: Row<'static> = (0x11, b"\x03\x02\x30abc", 4, 7, NOTHING);
+
+const HMAC_512: Row<'static> = (0x12, b"\x03\x03\x01\x00abc", 4, 7, NOTHING);
+
+// The slot is empty, and the test of HMAC-SHA-256 passed already: nothing fails.
+const EMPTY_SLOT: [Row<'static>; 2] = [USER, (0x11, b"\x03\x01\x20abc", 6, 5, NOTHING)];
+
+// Another algorithm has its own test, and that comes before the slot is looked at, which is empty here.
+#[test]
+fn tests_another_algorithm_at_its_own_first_use(rt: HostRuntime) -> Result<(), Fail> {
+    let hashed = [HASH_ABC];
+    for (engine, before, failing, code, shown) in [
+        (
+            Faulty::new(0, 2, 0),
+            hashed.as_slice(),
+            SHA_384,
+            (1, 2),
+            HASH_PASSED,
+        ),
+        (
+            Faulty::new(0, 2, 0),
+            hashed.as_slice(),
+            SHA_512,
+            (1, 3),
+            HASH_PASSED,
+        ),
+        (
+            Faulty::new(1, 1, 0),
+            [].as_slice(),
+            HMAC_384,
+            (1, 5),
+            BOTH_PASSED,
+        ),
+        (
+            Faulty::new(1, 1, 0),
+            [].as_slice(),
+            HMAC_512,
+            (1, 6),
+            BOTH_PASSED,
+        ),
+    ] {
+        let mut dialogue = Dialogue::new(rt.alloc());
+        play(&mut dialogue, &UP)?;
+        play(&mut dialogue, &EMPTY_SLOT)?;
+        fail(&mut dialogue, before, failing, code, shown)?;
+        let (status, replies) = outcome_over(rt.alloc(), engine, &["serve"], &dialogue.stream, 7)?;
+        assert_eq!(rt; status, 0);
+        assert_eq!(rt; replies.bytes(), dialogue.want.as_slice());
+    }
+    Ok(())
+}

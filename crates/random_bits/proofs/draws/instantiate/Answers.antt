@@ -1,0 +1,30 @@
+use Rattle.drbg_core.specs.declared.generator.Drbg.{Drbg}
+use Rattle.std.proofs.Common.{◌≡◌, ◌∙◌, ap, length}
+use Rattle.bits_core.specs.ByteList.{zeros}
+use Rattle.outside.proofs.Explanations.{explained_by}
+use Rattle.random_bits.proofs.Seeds.{instantiated_ok, instantiated_err}
+use Rattle.random_bits.proofs.draws.instantiate.Goals as goal
+
+pub returns-in-Ok-clause-instantiated : goal.returns-in-Ok-clause-instantiated
+returns-in-Ok-clause-instantiated g c samples counts =
+    explained_by _ _ (c.in-Ok.ensures.taken samples counts)
+    (λ events left taken. instantiated_ok g.E.Engine.calls _ _ _ _ _ samples _ events left (c.take_samples.auto.out ∙ c.requires.room) taken (c.in-Ok.ensures.counts samples counts) c.seed_from.ensures.engine c.seed_from.ensures.generator)
+
+pub returns-in-Err-clause-instantiated : goal.returns-in-Err-clause-instantiated
+returns-in-Err-clause-instantiated g c samples counts =
+    explained_by _ _ (c.in-Err.ensures.taken samples counts)
+    (λ events left failed. instantiated_err g.E.Engine.calls _ _ _ c.in-Err.failure samples _ events left (c.take_samples.auto.out ∙ c.requires.room) failed)
+
+pub returns-in-Ok-clause-wiped : goal.returns-in-Ok-clause-wiped
+returns-in-Ok-clause-wiped g c = c.wipe.ensures ∙ ap zeros (c.take_samples.auto.out ∙ c.requires.room)
+
+pub returns-in-Err-clause-wiped : goal.returns-in-Err-clause-wiped
+returns-in-Err-clause-wiped g c = c.wipe-in-Err.ensures ∙ ap zeros (c.take_samples.auto.out ∙ c.requires.room)
+
+pub returns-in-Ok-clause-counter : goal.returns-in-Ok-clause-counter
+returns-in-Ok-clause-counter g c = ap (λ (d : Drbg). d.counter) c.seed_from.ensures.generator ∙ g.met.E.Engine.keeps.instantiate_counter _ _ _ _
+
+pub returns-in-Ok-clause-counted : goal.returns-in-Ok-clause-counted
+returns-in-Ok-clause-counted g c =
+    let (samples, counts) = c.requires.counts in
+    (_, c.in-Ok.ensures.counts samples counts)

@@ -1,0 +1,4 @@
+pub mod Tests
+pub mod TestSet
+pub mod KnownAnswers
+pub mod Integrity

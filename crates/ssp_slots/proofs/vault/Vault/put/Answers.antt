@@ -1,8 +1,0 @@
-use Rattle.ssp_slots.proofs.WellFormedSlots.{AreWellFormed-with_slot}
-use Rattle.ssp_slots.proofs.vault.Vault.put.Goals as goal
-
-pub invariant_of-self-2 : goal.invariant_of-self-2
-invariant_of-self-2 c = (AreWellFormed-with_slot _ _ _ c.self.invariant.0 c.fill.ensures.well_formed, c.self.invariant.1)
-
-pub returns-clause-well_formed : goal.returns-clause-well_formed
-returns-clause-well_formed c = AreWellFormed-with_slot _ _ _ c.self.invariant.0 c.fill.ensures.well_formed

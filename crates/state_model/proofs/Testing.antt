@@ -1,0 +1,95 @@
+-- What tests leave, by whether they passed.
+use Rattle.std.proofs.Common.{◌≡◌, ◌≤◌, ◌||◌, ℕ, Bool, true, false, Option, Some, None, refl, ap, ◌∙◌, arith}
+use Rattle.std.specs.Prelude.{◌==◌}
+use Rattle.service_table.specs.declared.failure.Failure.TheVariants as failure
+use Rattle.service_table.specs.declared.state.State.{State}
+use Rattle.service_table.specs.declared.state.State.TheVariants as state
+use Rattle.service_table.specs.declared.status.Status.TheVariants as status
+use Rattle.self_tests.specs.declared.numbers.Test.{Test}
+use Rattle.self_tests.specs.declared.numbers.Test.TheVariants as test
+use Rattle.self_tests.specs.Tests.{number_of}
+use Rattle.self_tests.specs.TestSet.{has_test, with_test}
+use Rattle.self_tests.specs.KnownAnswers.{answers_right, engine_after}
+use Rattle.self_tests.proofs.Sets.{test_in_union}
+use Rattle.module_frames.specs.declared.public_state.PublicState.{PublicState}
+use Rattle.module_frames.specs.PublicEffects.{has_failed}
+use Rattle.engine_core.specs.Calls.{Calls}
+use Rattle.state_model.specs.SelfTesting.{Tested, tested, judgement}
+use Rattle.state_model.specs.MachineState.{HavePassed, ArePassed, IsReturn, IsFailure}
+
+-- every test of one set is in the other
+abbrev pub Includes : ℕ → ℕ → Type 0
+Includes more tests = (t : Test) → has_test tests t ≡ true → has_test more t ≡ true
+
+pub includes_itself : (tests : ℕ) → Includes tests tests
+includes_itself tests = λ t has. has
+
+or_true : (b : Bool) → (b || true) ≡ true
+or_true true = refl
+or_true false = refl
+
+pub with_test_includes : (tests : ℕ) (new : Test) → Includes (with_test tests new) tests
+with_test_includes tests new = λ t has. test_in_union tests new t ∙ ap (λ b. b || number_of t == number_of new) has
+
+pub has_generator : (tests : ℕ) → has_test (with_test tests test.Generator) test.Generator ≡ true
+has_generator tests = test_in_union tests test.Generator test.Generator ∙ or_true (has_test tests test.Generator)
+
+pub has_mac : (tests : ℕ) → has_test (with_test tests test.HmacSha256) test.HmacSha256 ≡ true
+has_mac tests = test_in_union tests test.HmacSha256 test.HmacSha256 ∙ or_true (has_test tests test.HmacSha256)
+
+-- what holds of a test that passed, or of none, and of a failed one holds of what is tested
+pub tested_by : {V : Type 0} (calls : Calls V) (engine : V) (public : PublicState) (tests : ℕ) (P : Tested V → Type 0)
+    → ((more : ℕ) (engine' : V) → Includes more tests → P (record { judgement = record { public = public; tests_passed = more; refused = None }; engine = engine' }))
+    → ((t : Test) (engine' : V) → P (record { judgement = record { public = has_failed (failure.KnownAnswer (number_of t)) public; tests_passed = tests; refused = Some status.TestFailed }; engine = engine' }))
+    → (due : Option Test) → P (tested calls engine public tests due)
+tested_by calls engine public tests P passes fails None = passes tests engine (includes_itself tests)
+tested_by calls engine public tests P passes fails (Some t) = by_right (answers_right calls engine t)
+  where
+    by_right : (right : Bool) → P (record { judgement = judgement public tests t right; engine = engine_after calls engine t })
+    by_right true = passes (with_test tests t) (engine_after calls engine t) (with_test_includes tests t)
+    by_right false = fails t (engine_after calls engine t)
+
+-- a failed known-answer test is a failure
+pub is_failure : (t : Test) → IsFailure (failure.KnownAnswer (number_of t))
+is_failure test.Sha256 = (omega arith, omega arith)
+is_failure test.Sha384 = (omega arith, omega arith)
+is_failure test.Sha512 = (omega arith, omega arith)
+is_failure test.HmacSha256 = (omega arith, omega arith)
+is_failure test.HmacSha384 = (omega arith, omega arith)
+is_failure test.HmacSha512 = (omega arith, omega arith)
+is_failure test.Seal = (omega arith, omega arith)
+is_failure test.Open = (omega arith, omega arith)
+is_failure test.Wrap = (omega arith, omega arith)
+is_failure test.Unwrap = (omega arith, omega arith)
+is_failure test.WrapPad = (omega arith, omega arith)
+is_failure test.UnwrapPad = (omega arith, omega arith)
+is_failure test.Derive = (omega arith, omega arith)
+is_failure test.Generator = (omega arith, omega arith)
+
+pub passed_more : (more tests : ℕ) → Includes more tests → HavePassed tests → HavePassed more
+passed_more more tests includes passed = record { mac = includes test.HmacSha256 passed.mac; generator = includes test.Generator passed.generator }
+
+-- in a state of use both have passed, and where they have it may be one
+pub passed_in_use : (found : State) (tests_done tests : ℕ) → IsReturn found → ArePassed found tests_done tests → HavePassed tests
+passed_in_use state.Approved tests_done tests use' passed = passed
+passed_in_use state.Officer tests_done tests use' passed = passed
+passed_in_use state.User tests_done tests use' passed = passed
+passed_in_use state.Off tests_done tests use' passed = absurd use'
+passed_in_use state.Init tests_done tests use' passed = absurd use'
+passed_in_use state.SelfTest tests_done tests use' passed = absurd use'
+passed_in_use state.Entry tests_done tests use' passed = absurd use'
+passed_in_use state.Error tests_done tests use' passed = absurd use'
+
+pub use_of_passed : (found : State) (tests_done tests : ℕ) → IsReturn found → HavePassed tests → ArePassed found tests_done tests
+use_of_passed state.Approved tests_done tests use' passed = passed
+use_of_passed state.Officer tests_done tests use' passed = passed
+use_of_passed state.User tests_done tests use' passed = passed
+use_of_passed state.Off tests_done tests use' passed = absurd use'
+use_of_passed state.Init tests_done tests use' passed = absurd use'
+use_of_passed state.SelfTest tests_done tests use' passed = absurd use'
+use_of_passed state.Entry tests_done tests use' passed = absurd use'
+use_of_passed state.Error tests_done tests use' passed = absurd use'
+
+-- before any of three tests was done nothing has to have passed
+pub none_done : (tests : ℕ) → ArePassed state.SelfTest 0 tests
+none_done tests = λ some. absurd (omega (arith, some))

@@ -1,0 +1,60 @@
+-- The self-tests of the machine: known answers are asked of the engine when tests are due, and of each algorithm at its first use since
+-- (ISO/IEC 19790:2012, 7.10.2 and 7.10.3.2; which tests, and when, is this project's own). Of these tests two are made: that of
+-- HMAC-SHA-256 and that of the generator.
+use Rattle.std.specs.Prelude.{ℕ, ◌==◌, Bool, true, false, Option, Some, None, option_and_then, if◌then◌else◌}
+use Rattle.bits_core.specs.declared.algorithm.Alg.{Alg}
+use Rattle.service_table.specs.KnownAnswers.{test_of}
+use Rattle.service_table.specs.declared.failure.Failure.TheVariants as failure
+use Rattle.service_table.specs.declared.status.Status.{Status}
+use Rattle.service_table.specs.declared.status.Status.TheVariants as status
+use Rattle.self_tests.specs.declared.numbers.Test.{Test}
+use Rattle.self_tests.specs.declared.numbers.Test.TheVariants as test
+use Rattle.self_tests.specs.Tests.{number_of, test_numbered}
+use Rattle.self_tests.specs.TestSet.{has_test, with_test}
+use Rattle.self_tests.specs.KnownAnswers.{answers_right, engine_after}
+use Rattle.module_frames.specs.declared.public_state.PublicState.{PublicState}
+use Rattle.module_frames.specs.PublicEffects.{has_failed, test_done}
+use Rattle.module_frames.specs.Requests.{CryptographicRequest, cryptographic_service_for}
+use Rattle.module_frames.specs.Requests as request
+use Rattle.engine_core.specs.Calls.{Calls}
+use Rattle.state_model.specs.declared.self_testing.Judgement.{Judgement}
+
+-- a test whose answers were right joins those that passed; else the state is Error, and the command is refused
+abbrev pub judgement : PublicState → ℕ → Test → Bool → Judgement
+judgement public tests_passed test true = record { public = public; tests_passed = with_test tests_passed test; refused = None }
+judgement public tests_passed test false =
+    record { public = has_failed (failure.KnownAnswer (number_of test)) public; tests_passed = tests_passed; refused = Some status.TestFailed }
+
+-- what a test leaves, where one is due
+pub record Tested (V : Type 0) : Type 0 where
+  pub judgement : Judgement
+  pub engine : V
+
+abbrev pub tested : {V : Type 0} → Calls V → V → PublicState → ℕ → Option Test → Tested V
+tested calls engine public tests_passed None = record { judgement = record { public = public; tests_passed = tests_passed; refused = None }; engine = engine }
+tested calls engine public tests_passed (Some test) =
+    record { judgement = judgement public tests_passed test (answers_right calls engine test); engine = engine_after calls engine test }
+
+-- the test that TestStep makes when so many of the three were done
+abbrev pub test_due : ℕ → Option Test
+test_due tests_done = if tests_done == 0 then Some test.HmacSha256 else if tests_done == 1 then None else Some test.Generator
+
+-- the hash function that a request names
+abbrev pub alg_named : CryptographicRequest → Option Alg
+alg_named (request.Hash alg text) = Some alg
+alg_named (request.Mac slot alg mac_length text) = Some alg
+alg_named (request.MacVerify slot alg tag text) = Some alg
+
+-- the test of what a request uses
+abbrev pub test_for : CryptographicRequest → Option Test
+test_for what = option_and_then test_numbered (test_of (cryptographic_service_for what) (alg_named what))
+
+-- it is due at the first use: where it isn't among those that passed
+abbrev pub due_at_first_use : ℕ → Option Test → Option Test
+due_at_first_use tests_passed None = None
+due_at_first_use tests_passed (Some test) = if has_test tests_passed test then None else Some test
+
+-- after a test of TestStep: the public state, and the status
+abbrev pub stepped_with : PublicState → Option Status → PublicState × Status
+stepped_with public None = (test_done public, status.Ok)
+stepped_with public (Some why) = (public, why)

@@ -1,0 +1,2 @@
+pub mod EventTaken
+pub mod Taking
