@@ -1,5 +1,6 @@
 -- A module whose engine was tested, and the machine that it represents.
 use Rattle.std.proofs.Common.{◌≡◌, ◌≢◌, ℕ, List, [], Bool, true, Option, Some, None, refl, sym, subst, if◌then◌else◌}
+use Rattle.drbg_core.specs.declared.generator.Drbg.{Drbg}
 use Rattle.noise_health.specs.declared.health.Health.{Health}
 use Rattle.noise_health.specs.Counts.{Counts}
 use Rattle.service_table.specs.declared.failure.Failure.TheVariants as failure
@@ -20,10 +21,10 @@ use Rattle.engine_core.specs.Calls.{Calls}
 use Rattle.state_model.specs.ModuleView.{ModuleView}
 use Rattle.state_model.specs.MachineState.{MachineState, IsWellFormed}
 use Rattle.state_model.specs.Management.{after_test, with_tested, test_step}
-use Rattle.state_model.specs.SelfTesting.{Tested, tested, test_due, stepped_with}
+use Rattle.state_model.specs.SelfTesting.{Tested, tested, step_tested, stepped_with}
 use Rattle.state_model.specs.Cryptographic.{service_at, ready_after, served}
 use Rattle.state_model.specs.Represents.{machine_of, Represents, IsServiceResult}
-use Rattle.state_model.proofs.Testing.{tested_by}
+use Rattle.state_model.proofs.Testing.{tested_by, step_tested_by}
 use Rattle.state_model.proofs.PublicRules.{failed_is_not_over}
 use Rattle.state_model.proofs.Rules.{test_step_kept}
 use Rattle.state_model.proofs.Serving.{served_represents}
@@ -38,7 +39,7 @@ some_is_not_none {A} why is = subst (where_none A) is tt
 
 -- TestStep
 pub stepped_represents : {V : Type 0} (calls : Calls V) (m : ModuleView V) (samples : List ℕ) (events : List Sample) → IsWellFormed (machine_of m samples) → m.public.state ≡ state.SelfTest → Counts m.health samples
-    → (let t : Tested V = tested calls m.engine m.public m.tests_passed (test_due m.public.tests_done) in
+    → (let t : Tested V = step_tested calls m.engine m.public m.tests_passed m.image m.digest in
     let next : PublicState × Status = stepped_with t.judgement.public t.judgement.refused in
     let n : ModuleView V = record m { public = next.0; tests_passed = t.judgement.tests_passed; engine = t.engine } in
     IsServiceResult (test_step calls (machine_of m samples) events) n next.1 no_block [])
@@ -48,10 +49,10 @@ stepped_represents {V} calls m samples events rules testing counts =
     (let next : PublicState × Status = stepped_with t.judgement.public t.judgement.refused in
     let n : ModuleView V = record m { public = next.0; tests_passed = t.judgement.tests_passed; engine = t.engine } in
     IsServiceResult (after_test s (with_tested s.shared t) t.judgement.refused events) n next.1 no_block []) in
-    tested_by calls m.engine m.public m.tests_passed Is
-    (λ more engine includes kept. record { represents = record { same = refl; well_formed = kept; counts = λ _. counts }; same_status = refl; same_block = refl; same_payload = refl })
-    (λ t engine kept. record { represents = record { same = refl; well_formed = kept; counts = λ _. counts }; same_status = refl; same_block = refl; same_payload = refl })
-    (test_due m.public.tests_done) (test_step_kept calls s events rules testing)
+    step_tested_by calls m.engine m.public m.tests_passed m.image m.digest Is
+    (λ more engine includes first last kept. record { represents = record { same = refl; well_formed = kept; counts = λ _. counts }; same_status = refl; same_block = refl; same_payload = refl })
+    (λ why engine is kept. record { represents = record { same = refl; well_formed = kept; counts = λ _. counts }; same_status = refl; same_block = refl; same_payload = refl })
+    (test_step_kept calls s events rules testing)
 
 -- a cryptographic service that is refused since its test failed
 pub refused_represents : {V : Type 0} (calls : Calls V) (m : ModuleView V) (samples : List ℕ) (events : List Sample) (what : CryptographicRequest) (due : Option Test) (why : Status) → Counts m.health samples
@@ -82,27 +83,27 @@ pub used_represents : {V : Type 0} (calls : Calls V) (m : ModuleView V) (samples
     → (let s : MachineState V = machine_of m samples in
     let t : Tested V = tested calls m.engine (use_counted m.public) m.tests_passed due in
     let result = service_at calls t.engine [] m.vault.slots what in
-    t.judgement.refused ≡ None → (engine : V) (vault : Contents) (health : Health) (ended : PublicState × ℕ) (why : Status) (payload : List ℕ)
-    → engine ≡ result.engine → vault ≡ record m.vault { slots = result.slots } → AreWellFormed vault → health ≡ m.health
+    t.judgement.refused ≡ None → (engine : V) (vault : Contents) (health : Health) (generator : Drbg) (ended : PublicState × ℕ) (why : Status) (payload : List ℕ)
+    → engine ≡ result.engine → vault ≡ record m.vault { slots = result.slots } → AreWellFormed vault → health ≡ m.health → generator ≡ m.generator
     → ended ≡ (if is_period_over t.judgement.public then (sent_to_tests t.judgement.public, 0) else (t.judgement.public, t.judgement.tests_passed))
     → why ≡ result.answer.status → payload ≡ result.answer.payload
-    → (let n : ModuleView V = record { public = ended.0; tests_passed = ended.1; engine = engine; health = health; vault = vault; entry = m.entry } in
+    → (let n : ModuleView V = record { public = ended.0; tests_passed = ended.1; engine = engine; health = health; generator = generator; image = m.image; digest = m.digest; vault = vault; entry = m.entry } in
     IsServiceResult (served calls s (ready_after s.shared t events) what) n why no_block payload))
 used_represents {V} calls m samples events what due rules allowed counts =
     let s : MachineState V = machine_of m samples in
     let Is : Tested V → Type 0 = λ t.
     (let result = service_at calls t.engine [] m.vault.slots what in
-    t.judgement.refused ≡ None → (engine : V) (vault : Contents) (health : Health) (ended : PublicState × ℕ) (why : Status) (payload : List ℕ)
-    → engine ≡ result.engine → vault ≡ record m.vault { slots = result.slots } → AreWellFormed vault → health ≡ m.health
+    t.judgement.refused ≡ None → (engine : V) (vault : Contents) (health : Health) (generator : Drbg) (ended : PublicState × ℕ) (why : Status) (payload : List ℕ)
+    → engine ≡ result.engine → vault ≡ record m.vault { slots = result.slots } → AreWellFormed vault → health ≡ m.health → generator ≡ m.generator
     → ended ≡ (if is_period_over t.judgement.public then (sent_to_tests t.judgement.public, 0) else (t.judgement.public, t.judgement.tests_passed))
     → why ≡ result.answer.status → payload ≡ result.answer.payload
-    → (let n : ModuleView V = record { public = ended.0; tests_passed = ended.1; engine = engine; health = health; vault = vault; entry = m.entry } in
+    → (let n : ModuleView V = record { public = ended.0; tests_passed = ended.1; engine = engine; health = health; generator = generator; image = m.image; digest = m.digest; vault = vault; entry = m.entry } in
     IsServiceResult (served calls s (ready_after s.shared t events) what) n why no_block payload)) in
     tested_by calls m.engine (use_counted m.public) m.tests_passed Is
-    (λ more tested_engine includes none engine vault health ended why payload same_engine same_vault are same_health settled same_status same_payload. record {
-      represents = served_represents m samples more (service_at calls tested_engine [] m.vault.slots what) engine vault health ended rules allowed includes counts same_engine same_vault are same_health settled;
+    (λ more tested_engine includes none engine vault health generator ended why payload same_engine same_vault are same_health same_generator settled same_status same_payload. record {
+      represents = served_represents m samples more (service_at calls tested_engine [] m.vault.slots what) engine vault health generator ended rules allowed includes counts same_engine same_vault are same_health same_generator settled;
       same_status = same_status;
       same_block = refl;
       same_payload = same_payload;
     })
-    (λ t tested_engine none engine vault health ended why payload same_engine same_vault are same_health settled same_status same_payload. some_is_not_none status.TestFailed none) due
+    (λ t tested_engine none engine vault health generator ended why payload same_engine same_vault are same_health same_generator settled same_status same_payload. some_is_not_none status.TestFailed none) due

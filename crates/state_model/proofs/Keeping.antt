@@ -31,8 +31,8 @@ use Rattle.state_model.proofs.Rules.{number_taken_kept, power_on_kept, request_t
 use Rattle.state_model.proofs.Sequences.{by_order}
 use Rattle.state_model.proofs.RequestReading.{IsOfBytes, IsRead, request_read}
 
-pub begins : {V : Type 0} (engine : V) → IsWellFormed (initial_state engine)
-begins engine = record {
+pub begins : {V : Type 0} (engine : V) (image digest : List ℕ) → IsWellFormed (initial_state engine image digest)
+begins engine image digest = record {
   public = record {
     period = omega arith;
     counting = λ _ some. some;

@@ -15,14 +15,14 @@ use Rattle.outside.specs.declared.traits.Sample.{Sample}
 use Rattle.module_frames.specs.declared.public_state.PublicState.{PublicState}
 use Rattle.module_frames.specs.PublicState.{no_block}
 use Rattle.module_frames.specs.PublicEffects.{sequence_taken, use_counted, is_period_over, sent_to_tests, has_failed, role_state}
+use Rattle.service_table.specs.declared.failure.Failure.{Failure}
 use Rattle.service_table.specs.declared.failure.Failure.TheVariants as failure
 use Rattle.self_tests.specs.declared.numbers.Test.{Test}
 use Rattle.self_tests.specs.declared.numbers.Test.TheVariants as test
 use Rattle.self_tests.specs.Tests.{number_of}
-use Rattle.self_tests.specs.TestSet.{has_test, with_test}
-use Rattle.self_tests.specs.KnownAnswers.{answers_right, engine_after}
-use Rattle.state_model.specs.SelfTesting.{Tested, tested, judgement}
-use Rattle.state_model.proofs.Testing.{Includes, with_test_includes, has_mac, has_generator, is_failure, passed_more, passed_in_use, use_of_passed, none_done}
+use Rattle.self_tests.specs.TestSet.{has_test}
+use Rattle.state_model.specs.SelfTesting.{Tested}
+use Rattle.state_model.proofs.Testing.{Includes, step_tested_by, is_failure, passed_more, passed_in_use, use_of_passed, none_done}
 use Rattle.ssp_slots.specs.declared.slot.Slot.{Slot}
 use Rattle.ssp_slots.specs.declared.slot_fault.SlotFault.{SlotFault}
 use Rattle.ssp_slots.specs.Refusals.{source_fault, vacancy_fault}
@@ -34,7 +34,7 @@ use Rattle.crypto_services.specs.AtSlots.{Answer, SlotResult, slot_at, on_slot, 
 use Rattle.state_model.specs.declared.entry.Target.{Target}
 use Rattle.state_model.specs.Entries.{with_piece, entry_length, IsEntered}
 use Rattle.state_model.specs.Commit.{commit_at, unless, entered, after_check, check_value}
-use Rattle.state_model.specs.MachineState.{MachineState, Shared, IsReturn, IsPublicState, HavePassed, ArePassed, AreHealthy, state_of, vault_of, with_vault}
+use Rattle.state_model.specs.MachineState.{MachineState, Shared, IsReturn, IsPublicState, HavePassed, ArePassed, AreHealthy, IsFailure, state_of, vault_of, with_vault}
 use Rattle.state_model.specs.MachineState.{IsWellFormed as IsMachine}
 use Rattle.state_model.specs.Management.{refused, done, with_public, with_tested, after_test, power_on, request_tests, test_step, select_role, reset, entry_begin, entry_bytes, entry_over, entry_commit, committed, with_slots, zeroise, zeroise_all}
 use Rattle.state_model.specs.Cryptographic.{after_slots}
@@ -94,10 +94,10 @@ passed_kept s false tests engine is rules testing first last = record {
 }
 
 -- a test failed
-failed_test_kept : {V : Type 0} (s : MachineState V) (t : Test) (engine : V) → IsMachine s → state_of s ≡ state.SelfTest
-    → IsMachine (with_judged s (has_failed (failure.KnownAnswer (number_of t)) s.shared.public) s.shared.tests_passed engine)
-failed_test_kept s t engine rules testing = record {
-  public = failed_kept s.shared.public (failure.KnownAnswer (number_of t)) rules.public (is_failure t);
+failed_test_kept : {V : Type 0} (s : MachineState V) (why : Failure) (engine : V) → IsMachine s → state_of s ≡ state.SelfTest → IsFailure why
+    → IsMachine (with_judged s (has_failed why s.shared.public) s.shared.tests_passed engine)
+failed_test_kept s why engine rules testing is = record {
+  public = failed_kept s.shared.public why rules.public is;
   passed = tt;
   healthy = λ other. absurd (other refl);
   slots = rules.slots;
@@ -106,7 +106,11 @@ failed_test_kept s t engine rules testing = record {
 }
 
 pub test_step_kept : {V : Type 0} (calls : Calls V) (s : MachineState V) (events : List Sample) → IsMachine s → state_of s ≡ state.SelfTest → IsMachine (test_step calls s events).machine
-test_step_kept {V} calls s events rules testing = by_count (n == 0) refl (n == 1) refl (nat_lt n 2) refl
+test_step_kept {V} calls s events rules testing =
+    let Kept : Tested V → Type 0 = λ t. IsMachine (after_test s (with_tested s.shared t) t.judgement.refused events).machine in
+    step_tested_by calls s.shared.engine s.shared.public s.shared.tests_passed s.shared.image s.shared.digest Kept
+    (λ more engine includes first last. by_more more engine includes first last (nat_lt n 2) refl)
+    (λ why engine is. failed_test_kept s why engine rules testing is)
   where
     n : ℕ
     n = s.shared.public.tests_done
@@ -114,32 +118,20 @@ test_step_kept {V} calls s events rules testing = by_count (n == 0) refl (n == 1
     most : n ≤ 2
     most = (rules.public.testing testing).1
 
-    -- the tests of the first and the last step, right or wrong
-    first : (right : Bool) → nat_lt n 2 ≡ true → (let judged = judgement s.shared.public s.shared.tests_passed test.HmacSha256 right in
-        IsMachine (after_test s (with_tested s.shared (record { judgement = judged; engine = engine_after calls s.shared.engine test.HmacSha256 })) judged.refused events).machine)
-    first true more = rw more (passed_kept s true (with_test s.shared.tests_passed test.HmacSha256) _ more rules testing (λ _. has_mac s.shared.tests_passed) (λ e. cc))
-    first false more = failed_test_kept s test.HmacSha256 _ rules testing
-
-    last : (right : Bool) → nat_lt n 2 ≡ false → has_test s.shared.tests_passed test.HmacSha256 ≡ true → (let judged = judgement s.shared.public s.shared.tests_passed test.Generator right in
-        IsMachine (after_test s (with_tested s.shared (record { judgement = judged; engine = engine_after calls s.shared.engine test.Generator })) judged.refused events).machine)
-    last true over has = rw over (passed_kept s false (with_test s.shared.tests_passed test.Generator) _ over rules testing (λ e. cc) (λ _. record {
-      mac = with_test_includes s.shared.tests_passed test.Generator test.HmacSha256 has;
-      generator = has_generator s.shared.tests_passed;
-    }))
-    last false over has = failed_test_kept s test.Generator _ rules testing
-
     earlier : 1 ≤ n → has_test s.shared.tests_passed test.HmacSha256 ≡ true
     earlier some = (rw testing at rules.passed) some
 
-    by_count : (zero' : Bool) → (n == 0) ≡ zero' → (one : Bool) → (n == 1) ≡ one → (more : Bool) → nat_lt n 2 ≡ more
-        → (let due : Option Test = if zero' then Some test.HmacSha256 else if one then None else Some test.Generator in
-        let t : Tested V = tested calls s.shared.engine s.shared.public s.shared.tests_passed due in IsMachine (after_test s (with_tested s.shared t) t.judgement.refused events).machine)
-    by_count true is one k true m = first (answers_right calls s.shared.engine test.HmacSha256) m
-    by_count true is one k false m = absurd (grind (arith, nat_tests, is, m))
-    by_count false is true k true m = rw m (passed_kept s true s.shared.tests_passed _ m rules testing (λ _. earlier (grind (arith, nat_tests, k))) (λ e. cc))
-    by_count false is true k false m = absurd (grind (arith, nat_tests, k, m))
-    by_count false is false k true m = absurd (grind (arith, nat_tests, is, k, m))
-    by_count false is false k false m = last (answers_right calls s.shared.engine test.Generator) m (earlier (grind (arith, nat_tests, m)))
+    mac : (more : ℕ) → Includes more s.shared.tests_passed → (n ≡ 0 → has_test more test.HmacSha256 ≡ true) → (none : Bool) → (n == 0) ≡ none → has_test more test.HmacSha256 ≡ true
+    mac more includes first true is = first (grind (arith, nat_tests, is))
+    mac more includes first false is = includes test.HmacSha256 (earlier (grind (arith, nat_tests, is)))
+
+    by_more : (more : ℕ) (engine : V) → Includes more s.shared.tests_passed → (n ≡ 0 → has_test more test.HmacSha256 ≡ true) → (2 ≤ n → has_test more test.Generator ≡ true)
+        → (left : Bool) → nat_lt n 2 ≡ left → IsMachine (after_test s (with_tested s.shared (record { judgement = record { public = s.shared.public; tests_passed = more; refused = None }; engine = engine })) None events).machine
+    by_more more engine includes first last true is = rw is (passed_kept s true more engine is rules testing (λ _. mac more includes first (n == 0) refl) (λ e. cc))
+    by_more more engine includes first last false is = rw is (passed_kept s false more engine is rules testing (λ e. cc) (λ _. record {
+      mac = mac more includes first (n == 0) refl;
+      generator = last (grind (arith, nat_tests, is));
+    }))
 
 pub select_role_kept : {V : Type 0} (s : MachineState V) (role : ℕ) → IsMachine s → is_permitted service.SelectRole (state_of s) ≡ true → IsMachine (select_role s role)
 select_role_kept s role rules allowed =

@@ -1,6 +1,8 @@
 -- What the machine keeps, by who may ever depend on a key; and the rules of it, which are this project's own.
 use Rattle.std.specs.Prelude.{◌≡◌, ◌≢◌, ◌≤◌, ◌<◌, ◌^◌, ℕ, List, [], replicate, take, None, true}
 use Rattle.bits_core.specs.ByteList.{zeros}
+use Rattle.drbg_core.specs.declared.generator.Drbg.{Drbg}
+use Rattle.drbg_core.specs.Generator as drbg
 use Rattle.noise_health.specs.Signals.{health_signal}
 use Rattle.self_tests.specs.declared.numbers.Test.TheVariants as test
 use Rattle.self_tests.specs.TestSet.{has_test}
@@ -17,13 +19,16 @@ use Rattle.state_model.specs.declared.entry.Entry.{Entry}
 use Rattle.state_model.specs.Entries.{no_entry, IsUnderway}
 
 -- All that no key ever reaches where the engine is standard: what everyone may see, the tests that passed (test i is the bit of value
--- 2^i), the engine, the samples of noise since power came or since the last Reset, and the rows, which say from which slots the
--- parameter of each slot was made.
+-- 2^i), the engine, the samples of noise since power came or since the last Reset, the generator of random bits, the program's image and
+-- its digest, and the rows, which say from which slots the parameter of each slot was made.
 pub record Shared (V : Type 0) : Type 0 where
   pub public : PublicState
   pub tests_passed : ℕ
   pub engine : V
   pub samples : List ℕ
+  pub generator : Drbg
+  pub image : List ℕ
+  pub digest : List ℕ
   pub ancestry : List ℕ
 
 -- beside it the slots, and the parameter that is being entered
@@ -40,10 +45,22 @@ no_slots = replicate 16 empty_slot
 abbrev pub no_ancestry : List ℕ
 no_ancestry = zeros 16
 
--- not powered, the sequence number 1 expected, and all else zero or empty
-abbrev pub initial_state : {V : Type 0} → V → MachineState V
-initial_state engine =
-    record { shared = record { public = unpowered; tests_passed = 0; engine = engine; samples = []; ancestry = no_ancestry }; slots = no_slots; entry = no_entry }
+-- with this engine, image and digest: not powered, the sequence number 1 expected, and all else zero or empty
+abbrev pub initial_state : {V : Type 0} → V → (image digest : List ℕ) → MachineState V
+initial_state engine image digest = record {
+  shared = record {
+    public = unpowered;
+    tests_passed = 0;
+    engine = engine;
+    samples = [];
+    generator = drbg.empty;
+    image = image;
+    digest = digest;
+    ancestry = no_ancestry;
+  };
+  slots = no_slots;
+  entry = no_entry;
+}
 
 abbrev pub state_of : {V : Type 0} → MachineState V → State
 state_of s = s.shared.public.state

@@ -1,6 +1,7 @@
 -- What the services do that are no cryptographic ones. These rules are this project's own; ISO/IEC 19790:2012, 7.4.3 and 7.9.7, ask for
 -- such services.
 use Rattle.std.specs.Prelude.{ℕ, ◌+◌, nat_le, List, [], Option, Some, None, length, if◌then◌else◌}
+use Rattle.drbg_core.specs.Generator as drbg
 use Rattle.service_table.specs.declared.status.Status.{Status}
 use Rattle.service_table.specs.declared.status.Status.TheVariants as status
 use Rattle.module_frames.specs.declared.public_state.PublicState.{PublicState}
@@ -15,7 +16,7 @@ use Rattle.state_model.specs.declared.entry.Entry.{Entry}
 use Rattle.state_model.specs.declared.entry.Target.{Target}
 use Rattle.state_model.specs.Entries.{no_entry, begun_entry, with_piece, entry_length}
 use Rattle.state_model.specs.Commit.{commit_at, entered}
-use Rattle.state_model.specs.SelfTesting.{Tested, tested, test_due}
+use Rattle.state_model.specs.SelfTesting.{Tested, step_tested}
 use Rattle.state_model.specs.MachineState.{Shared, MachineState, no_slots, no_ancestry, vault_of, with_vault}
 
 -- what a step leaves, the events of noise that are left among it, and what it answers
@@ -65,16 +66,17 @@ after_test s shared (Some why) events = answered (record s { shared = shared }) 
 -- TestStep: the test that is due is made
 abbrev pub test_step : {V : Type 0} → Calls V → MachineState V → List Sample → Stepped V
 test_step calls s events =
-    let tests = tested calls s.shared.engine s.shared.public s.shared.tests_passed (test_due s.shared.public.tests_done) in
+    let tests = step_tested calls s.shared.engine s.shared.public s.shared.tests_passed s.shared.image s.shared.digest in
     after_test s (with_tested s.shared tests) tests.judgement.refused events
 
 -- SelectRole
 abbrev pub select_role : {V : Type 0} → MachineState V → ℕ → MachineState V
 select_role s role = with_public s (role_selected role s.shared.public)
 
--- Reset: all slots and rows are empty, nothing is entered, and no test or sample counts any more; the period and the engine stay
+-- Reset: all slots and rows are empty, nothing is entered, the generator has no seed, and no test or sample counts any more; period, engine,
+-- image and digest stay
 abbrev pub reset : {V : Type 0} → MachineState V → MachineState V
-reset s = record { shared = record (tests_forgotten s.shared (was_reset s.shared.public)) { samples = []; ancestry = no_ancestry }; slots = no_slots; entry = no_entry }
+reset s = record { shared = record (tests_forgotten s.shared (was_reset s.shared.public)) { samples = []; generator = drbg.empty; ancestry = no_ancestry }; slots = no_slots; entry = no_entry }
 
 -- EntryBegin: a parameter is entered for this target. The slot isn't looked at.
 abbrev pub entry_begin : {V : Type 0} → MachineState V → Target → MachineState V

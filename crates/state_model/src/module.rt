@@ -24,7 +24,7 @@ ghost use Rattle.state_model.specs.Represents.{Represents, IsRepresented, IsServ
 use crate::commit::commit;
 use crate::cryptographic::run_cryptographic_service;
 use crate::entry::{Entry, Target};
-use crate::self_testing::{due_at_first_use, run_test, test_due, test_for};
+use crate::self_testing::{due_at_first_use, run_step_test, run_test, test_for};
 use bits_core::{Header, Outbox, SlotId};
 use crypto_services::{Outcome, Parts};
 use engine_core::Engine;
@@ -43,6 +43,8 @@ pub struct Module<E: Engine> {
     tests_passed: Tested,
     parts: Parts<E>,
     entry: Entry,
+    image: Vec<u8>,
+    digest: [u8; 32],
 }
 
 impl<E: Engine> Model for Module<E> {
@@ -115,9 +117,15 @@ fn settled(public: PublicState, tests_passed: Tested) -> (PublicState, Tested)
 }
 
 impl<E: Engine> Module<E> {
-    /// A module that isn't powered, with sixteen empty slots.
-    pub fn open(alloc: Global, engine: E) -> Result<Module<E>, AllocError>
-        ensures { IfOk result (λ opened. Represents opened (initial_state engine)) }
+    /// A module that isn't powered, with sixteen empty slots. The image is the one that its self-tests check, and the digest is the
+    /// image's HMAC-SHA-256 under the image key.
+    pub fn open(
+        alloc: Global,
+        engine: E,
+        image: Vec<u8>,
+        digest: [u8; 32],
+    ) -> Result<Module<E>, AllocError>
+        ensures { IfOk result (λ opened. Represents opened (initial_state engine image.items digest)) }
     {
         let parts = Parts::new(alloc, engine)?;
         Ok(Module {
@@ -125,6 +133,8 @@ impl<E: Engine> Module<E> {
             tests_passed: Tested::empty(),
             parts,
             entry: Entry::empty(),
+            image,
+            digest,
         })
     }
 
@@ -161,8 +171,13 @@ impl<E: Engine> Module<E> {
             IsServiceResult (test_step E.calls s events) self.new result no_block [] }
     {
         let tests_passed = self.tests_passed;
-        let due = test_due(self.public.tests_done);
-        let judged = run_test(&mut self.parts.engine, self.public, tests_passed, due);
+        let judged = run_step_test(
+            &mut self.parts.engine,
+            self.public,
+            tests_passed,
+            &self.image,
+            &self.digest,
+        );
         let (public, status) = after_test(judged.public, judged.refused);
         self.public = public;
         self.tests_passed = judged.tests_passed;
@@ -177,13 +192,14 @@ impl<E: Engine> Module<E> {
         self.public = self.public.role_selected(role);
     }
 
-    // Reset: all slots and rows are empty, nothing is entered, and no test or sample counts any more.
+    // Reset: all slots and rows are empty, nothing is entered, the generator has no seed, and no test or sample counts any more.
     fn reset(&mut self)
         ensures { (s : MachineState E) → Represents self.old s → Represents self.new (reset s) }
     {
         self.public = self.public.was_reset();
         self.tests_passed = Tested::empty();
         self.parts.vault.zeroise_all();
+        self.parts.drbg.wipe();
         self.parts.health = Health::new();
         self.entry.clear();
     }
@@ -429,7 +445,7 @@ mod tests {
 
     #[test]
     fn opens_and_answers(rt: HostRuntime) -> Result<(), Fail> {
-        let mut module = Module::open(rt.alloc(), Shipped::new())?;
+        let mut module = Module::open(rt.alloc(), Shipped::new(), Vec::new(rt.alloc()), [0; 32])?;
         let mut noise = MemNoise::new(Vec::new(rt.alloc()));
         let mut command = Command::new(rt.alloc())?;
         let mut reply = Reply::new(rt.alloc())?;

@@ -1,11 +1,11 @@
 // The self-tests of the machine.
 ghost use Rattle.std.specs.Prelude.{◌≡◌, ◌<◌};
 ghost use Rattle.module_frames.specs.Requests.{CryptographicRequest, Cryptographic, request_value};
-ghost use Rattle.state_model.specs.SelfTesting.{judgement, tested, test_due, test_for, due_at_first_use};
+ghost use Rattle.state_model.specs.SelfTesting.{judgement, tested, image_judgement, step_tested, test_for, due_at_first_use};
 
 use engine_core::Engine;
 use module_frames::{PublicState, Request};
-use self_tests::{Test, Tested, known_answer};
+use self_tests::{Test, Tested, integrity, known_answer};
 use service_table::{Failure, Service, Status, test_of};
 
 /// What a test leaves of the public state and of the tests that passed, and why the command is refused, where it is.
@@ -62,14 +62,39 @@ pub fn run_test<E: Engine>(
     }
 }
 
-/// The test that TestStep makes when so many of the three were done: HMAC-SHA-256; none yet; the generator.
-pub fn test_due(tests_done: u8) -> Option<Test>
-    ensures { result ≡ test_due tests_done }
+// An image that has its digest changes nothing; else the state is Error.
+fn judge_image(public: PublicState, tests_passed: Tested, right: bool) -> Judgement
+    ensures { result ≡ image_judgement public tests_passed right }
 {
-    match tests_done {
-        0 => Some(Test::HmacSha256),
-        1 => None,
-        _ => Some(Test::Generator),
+    if right {
+        return Judgement {
+            public,
+            tests_passed,
+            refused: None,
+        };
+    }
+    Judgement {
+        public: public.has_failed(Failure::Integrity),
+        tests_passed,
+        refused: Some(Status::TestFailed),
+    }
+}
+
+/// Makes the test of TestStep that is due: HMAC-SHA-256; the image, by its digest; the generator.
+pub fn run_step_test<E: Engine>(
+    engine: &mut E,
+    public: PublicState,
+    tests_passed: Tested,
+    image: &[u8],
+    digest: &[u8; 32],
+) -> Judgement
+    ensures judgement { result ≡ (step_tested E.calls engine.old public tests_passed image.now digest.now).judgement }
+    ensures engine { engine.new ≡ (step_tested E.calls engine.old public tests_passed image.now digest.now).engine }
+{
+    match public.tests_done {
+        0 => run_test(engine, public, tests_passed, Some(Test::HmacSha256)),
+        1 => judge_image(public, tests_passed, integrity(engine, image, digest)),
+        _ => run_test(engine, public, tests_passed, Some(Test::Generator)),
     }
 }
 

@@ -14,7 +14,7 @@ invariant_of-self g c =
     let testing = rw (← c.self.view_is) at c.requires in
     let held = c.self.invariant in
     let is = stepped_represents g.E.Engine.calls (view_of c.self.inside) held.0.shared.samples [] (rules_here held.1) testing (held.1.counts (λ e. cc)) in
-    rw (c.after_test-status.ensures, c.run_test-judged.ensures.judgement, c.run_test-judged.ensures.engine, c.test_due-due.ensures) (_, is.represents)
+    rw (c.after_test-status.ensures, c.run_step_test-judged.ensures.judgement, c.run_step_test-judged.ensures.engine) (_, is.represents)
 
 pub returns : goal.returns
 returns g c s events represents =
@@ -25,10 +25,10 @@ returns g c s events represents =
     let is = stepped_represents g.E.Engine.calls (view_of c.self.inside) s.shared.samples events (rules_here held) testing (held.counts (λ e. cc)) in
     let after : ModuleView g.row.E.Denot = record (view_of c.self.inside) {
       public = c.after_test-status.result.0;
-      tests_passed = c.run_test-judged.result.tests_passed;
-      engine = c.run_test-judged.new.engine;
+      tests_passed = c.run_step_test-judged.result.tests_passed;
+      engine = c.run_step_test-judged.new.engine;
     } in
     let there : IsServiceResult (test_step g.E.Engine.calls t events) after c.after_test-status.result.1 no_block [] =
-    rw (c.after_test-status.ensures, c.run_test-judged.ensures.judgement, c.run_test-judged.ensures.engine, c.test_due-due.ensures) is in
+    rw (c.after_test-status.ensures, c.run_step_test-judged.ensures.judgement, c.run_step_test-judged.ensures.engine) is in
     let From : MachineState g.row.E.Denot → Type 0 = λ u. IsServiceResult (test_step g.E.Engine.calls u events) after c.after_test-status.result.1 no_block [] in
     subst From held.same there
