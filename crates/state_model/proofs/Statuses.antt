@@ -27,17 +27,17 @@ use Rattle.state_model.specs.Commit.{unless, check_value, entered}
 use Rattle.state_model.specs.Entries.{with_piece, entry_length}
 use Rattle.state_model.specs.MachineState.{MachineState, state_of}
 use Rattle.state_model.specs.Management.{Stepped, refused, done, committed, with_public, with_tested, after_test, test_step}
-use Rattle.state_model.specs.SelfTesting.{Tested, test_due, test_for, due_at_first_use}
+use Rattle.state_model.specs.SelfTesting.{Tested, test_for, due_at_first_use}
 use Rattle.state_model.specs.Cryptographic.{service_at, ready_after, served, cryptographic_step}
 use Rattle.state_model.specs.Step.{step, dispatch, dispatch_request, perform, indicated}
 use Rattle.state_model.proofs.Sequences.{by_order}
-use Rattle.state_model.proofs.Testing.{tested_by}
+use Rattle.state_model.proofs.Testing.{tested_by, step_tested_by}
 
 -- no test takes one
 test_left : {V : Type 0} (calls : Calls V) (s : MachineState V) (events : List Sample) → (test_step calls s events).left ≡ events
 test_left {V} calls s events =
     let Left : Tested V → Type 0 = λ t. (after_test s (with_tested s.shared t) t.judgement.refused events).left ≡ events in
-    tested_by calls s.shared.engine s.shared.public s.shared.tests_passed Left (λ more engine includes. refl) (λ t engine. refl) (test_due s.shared.public.tests_done)
+    step_tested_by calls s.shared.engine s.shared.public s.shared.tests_passed s.shared.image s.shared.digest Left (λ more engine includes first last. refl) (λ why engine is. refl)
 
 -- no service takes an event of noise yet
 pub perform_left : {V : Type 0} (calls : Calls V) (s : MachineState V) (events : List Sample) (what : RequestValue) → (perform calls s events what).left ≡ events
@@ -109,7 +109,7 @@ committed_status P of calls s (Some target) check =
 test_status : {V : Type 0} (P : Status → Type 0) → OfServices P → (calls : Calls V) (s : MachineState V) (events : List Sample) → P (test_step calls s events).status
 test_status {V} P of calls s events =
     let Answered : Tested V → Type 0 = λ t. P (after_test s (with_tested s.shared t) t.judgement.refused events).status in
-    tested_by calls s.shared.engine s.shared.public s.shared.tests_passed Answered (λ more engine includes. of.ok) (λ t engine. of.test_failed) (test_due s.shared.public.tests_done)
+    step_tested_by calls s.shared.engine s.shared.public s.shared.tests_passed s.shared.image s.shared.digest Answered (λ more engine includes first last. of.ok) (λ why engine is. of.test_failed)
 
 cryptographic_status : {V : Type 0} (P : Status → Type 0) → OfServices P → (calls : Calls V) (s : MachineState V) (events : List Sample) (what : CryptographicRequest)
     → P (cryptographic_step calls s events what).status
