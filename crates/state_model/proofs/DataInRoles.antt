@@ -31,7 +31,8 @@ use Rattle.state_model.specs.Laws.{DataNeedsARole}
 use Rattle.state_model.proofs.Permitted.{role_for_hash}
 use Rattle.state_model.proofs.Keeping.{hash_for_cryptographic}
 use Rattle.state_model.proofs.Sequences.{by_order}
-use Rattle.state_model.proofs.Testing.{tested_by, step_tested_by}
+use Rattle.state_model.proofs.Testing.{tested_by}
+use Rattle.state_model.proofs.TestSteps.{test_step_by}
 use Rattle.state_model.proofs.RequestReading.{IsRead, request_read}
 
 -- an answer with data is one of a service of class data that was done
@@ -69,8 +70,9 @@ either_none false a b h k = k
 
 test_gives : {V : Type 0} (calls : Calls V) (s : MachineState V) (events : List Sample) → Gives service.TestStep s (test_step calls s events)
 test_gives {V} calls s events =
-    let Given : Tested V → Type 0 = λ t. Gives service.TestStep s (after_test s (with_tested s.shared t) t.judgement.refused events) in
-    step_tested_by calls s.shared.engine s.shared.public s.shared.tests_passed s.shared.image s.shared.digest Given (λ more engine includes first last some. absurd (some refl)) (λ why engine is some. absurd (some refl))
+    let Given : Stepped V → Type 0 = λ after. Gives service.TestStep s after in
+    test_step_by calls s events Given (λ tests engine generator samples left some. absurd (some refl)) (λ why tests engine generator samples left some. absurd (some refl))
+    (λ why tests engine generator samples left some. absurd (some refl))
 
 cryptographic_gives : {V : Type 0} (calls : Calls V) (s : MachineState V) (events : List Sample) (what : CryptographicRequest) → is_permitted (cryptographic_service_for what) (state_of s) ≡ true
     → Gives (cryptographic_service_for what) s (cryptographic_step calls s events what)

@@ -23,7 +23,8 @@ use Rattle.state_model.specs.Cryptographic.{service_at, ready_after, served, cry
 use Rattle.state_model.specs.Step.{dispatch, dispatch_request, perform, is_in_order, number_taken}
 use Rattle.state_model.specs.Laws.{OutOfOrderByTheNumber, OutOfOrderChangesNothing, NumbersAreTaken}
 use Rattle.state_model.proofs.Sequences.{by_order}
-use Rattle.state_model.proofs.Testing.{tested_by, step_tested_by}
+use Rattle.state_model.proofs.Testing.{tested_by}
+use Rattle.state_model.proofs.TestSteps.{test_step_by}
 use Rattle.state_model.proofs.Statuses.{dispatched_in_order}
 
 -- the expected number is that of a state
@@ -42,8 +43,9 @@ settled shared false = refl
 
 stepped : {V : Type 0} (calls : Calls V) (s : MachineState V) (events : List Sample) → Expects s (test_step calls s events)
 stepped {V} calls s events =
-    let Kept : Tested V → Type 0 = λ t. Expects s (after_test s (with_tested s.shared t) t.judgement.refused events) in
-    step_tested_by calls s.shared.engine s.shared.public s.shared.tests_passed s.shared.image s.shared.digest Kept (λ more engine includes first last. tested s.shared.public (nat_lt s.shared.public.tests_done 2)) (λ why engine is. refl)
+    let Kept : Stepped V → Type 0 = λ after. Expects s after in
+    test_step_by calls s events Kept (λ tests engine generator samples left. tested s.shared.public (nat_lt s.shared.public.tests_done 2)) (λ why tests engine generator samples left. refl)
+    (λ why tests engine generator samples left. refl)
 
 used : {V : Type 0} (calls : Calls V) (s : MachineState V) (events : List Sample) (what : CryptographicRequest) → Expects s (cryptographic_step calls s events what)
 used {V} calls s events what =

@@ -43,7 +43,7 @@ use Rattle.state_model.proofs.PublicRules.{sequence_taken_kept, powered_on_kept,
 use Rattle.state_model.proofs.EntryRules.{underway_begun, underway_with_piece, underway_target}
 
 -- another public state, from a state in which nothing failed and nothing is entered to such a one
-quiet_kept : {V : Type 0} (s : MachineState V) (public : PublicState) (tests : ℕ) → IsMachine s → IsPublicState public → ArePassed public.state public.tests_done tests → state_of s ≢ state.Error
+quiet_kept : {V : Type 0} (s : MachineState V) (public : PublicState) (tests : ℕ) → IsMachine s → IsPublicState public → ArePassed public.state public.tests_done tests s.shared.generator → state_of s ≢ state.Error
     → state_of s ≢ state.Entry → public.state ≢ state.Entry → (let t : MachineState V = record s { shared = record s.shared { public = public; tests_passed = tests } } in IsMachine t)
 quiet_kept s public tests rules kept passed healthy quiet still = record {
   public = kept;
@@ -64,80 +64,15 @@ power_on_kept s period rules off small =
 
 pub request_tests_kept : {V : Type 0} (s : MachineState V) → IsMachine s → is_permitted service.RequestTests (state_of s) ≡ true → IsMachine (request_tests s)
 request_tests_kept s rules allowed =
-    quiet_kept s _ 0 rules (tests_requested_kept s.shared.public rules.public allowed) (none_done 0) (not_failed_for_request_tests (state_of s) allowed)
+    quiet_kept s _ 0 rules (tests_requested_kept s.shared.public rules.public allowed) (none_done 0 s.shared.generator) (not_failed_for_request_tests (state_of s) allowed)
     (not_entering_for_request_tests (state_of s) allowed) (λ e. cc)
-
--- what was tested, and an engine
-abbrev with_judged : {V : Type 0} → MachineState V → PublicState → ℕ → V → MachineState V
-with_judged s public tests engine = record s { shared = record s.shared { public = public; tests_passed = tests; engine = engine } }
-
--- a test passed, or there is none, and the next is due or none is any more
-passed_kept : {V : Type 0} (s : MachineState V) (more : Bool) (tests : ℕ) (engine : V) → nat_lt s.shared.public.tests_done 2 ≡ more → IsMachine s → state_of s ≡ state.SelfTest
-    → (more ≡ true → has_test tests test.HmacSha256 ≡ true) → (more ≡ false → HavePassed tests)
-    → (let next : PublicState = if more then record s.shared.public { tests_done = s.shared.public.tests_done + 1 } else record s.shared.public { state = s.shared.public.return_state; return_state = state.Off; tests_done = 0 } in
-    IsMachine (with_judged s next tests engine))
-passed_kept s true tests engine is rules testing first last = record {
-  public = test_done_by s.shared.public true is rules.public testing;
-  passed = rw testing (λ some. first refl);
-  healthy = λ _. rules.healthy (λ e. cc);
-  slots = rules.slots;
-  entering = λ e. cc;
-  wiped = λ _. rules.wiped (λ e. cc);
-}
-passed_kept s false tests engine is rules testing first last = record {
-  public = test_done_by s.shared.public false is rules.public testing;
-  passed = use_of_passed s.shared.public.return_state 0 tests (rules.public.testing testing).0 (last refl);
-  healthy = λ _. rules.healthy (λ e. cc);
-  slots = rules.slots;
-  entering = λ e. absurd (return_is_not_entry s.shared.public.return_state (rules.public.testing testing).0 e);
-  wiped = λ _. rules.wiped (λ e. cc);
-}
-
--- a test failed
-failed_test_kept : {V : Type 0} (s : MachineState V) (why : Failure) (engine : V) → IsMachine s → state_of s ≡ state.SelfTest → IsFailure why
-    → IsMachine (with_judged s (has_failed why s.shared.public) s.shared.tests_passed engine)
-failed_test_kept s why engine rules testing is = record {
-  public = failed_kept s.shared.public why rules.public is;
-  passed = tt;
-  healthy = λ other. absurd (other refl);
-  slots = rules.slots;
-  entering = λ e. cc;
-  wiped = λ _. rules.wiped (λ e. cc);
-}
-
-pub test_step_kept : {V : Type 0} (calls : Calls V) (s : MachineState V) (events : List Sample) → IsMachine s → state_of s ≡ state.SelfTest → IsMachine (test_step calls s events).machine
-test_step_kept {V} calls s events rules testing =
-    let Kept : Tested V → Type 0 = λ t. IsMachine (after_test s (with_tested s.shared t) t.judgement.refused events).machine in
-    step_tested_by calls s.shared.engine s.shared.public s.shared.tests_passed s.shared.image s.shared.digest Kept
-    (λ more engine includes first last. by_more more engine includes first last (nat_lt n 2) refl)
-    (λ why engine is. failed_test_kept s why engine rules testing is)
-  where
-    n : ℕ
-    n = s.shared.public.tests_done
-
-    most : n ≤ 2
-    most = (rules.public.testing testing).1
-
-    earlier : 1 ≤ n → has_test s.shared.tests_passed test.HmacSha256 ≡ true
-    earlier some = (rw testing at rules.passed) some
-
-    mac : (more : ℕ) → Includes more s.shared.tests_passed → (n ≡ 0 → has_test more test.HmacSha256 ≡ true) → (none : Bool) → (n == 0) ≡ none → has_test more test.HmacSha256 ≡ true
-    mac more includes first true is = first (grind (arith, nat_tests, is))
-    mac more includes first false is = includes test.HmacSha256 (earlier (grind (arith, nat_tests, is)))
-
-    by_more : (more : ℕ) (engine : V) → Includes more s.shared.tests_passed → (n ≡ 0 → has_test more test.HmacSha256 ≡ true) → (2 ≤ n → has_test more test.Generator ≡ true)
-        → (left : Bool) → nat_lt n 2 ≡ left → IsMachine (after_test s (with_tested s.shared (record { judgement = record { public = s.shared.public; tests_passed = more; refused = None }; engine = engine })) None events).machine
-    by_more more engine includes first last true is = rw is (passed_kept s true more engine is rules testing (λ _. mac more includes first (n == 0) refl) (λ e. cc))
-    by_more more engine includes first last false is = rw is (passed_kept s false more engine is rules testing (λ e. cc) (λ _. record {
-      mac = mac more includes first (n == 0) refl;
-      generator = last (grind (arith, nat_tests, is));
-    }))
 
 pub select_role_kept : {V : Type 0} (s : MachineState V) (role : ℕ) → IsMachine s → is_permitted service.SelectRole (state_of s) ≡ true → IsMachine (select_role s role)
 select_role_kept s role rules allowed =
     let use' = return_for_select_role (state_of s) allowed in
     quiet_kept s _ s.shared.tests_passed rules (role_selected_kept s.shared.public role rules.public use')
-    (use_of_passed (role_state role) s.shared.public.tests_done s.shared.tests_passed (role_is_of_use role) (passed_in_use (state_of s) s.shared.public.tests_done s.shared.tests_passed use' rules.passed)) (return_is_faultless (state_of s) use')
+    (use_of_passed (role_state role) s.shared.public.tests_done s.shared.tests_passed s.shared.generator (role_is_of_use role)
+        (passed_in_use (state_of s) s.shared.public.tests_done s.shared.tests_passed s.shared.generator use' rules.passed)) (return_is_faultless (state_of s) use')
     (return_is_not_entry (state_of s) use') (return_is_not_entry _ (role_is_of_use role))
 
 -- no sample shows no fault
@@ -267,7 +202,7 @@ on_source_kept engine slot kind approved after answer well =
     under_key_kept engine _ _ _ after answer (source_kept slot (source_fault slot.header kind approved) well)
 
 -- what comes before and after the slots
-after_kept : {V : Type 0} (s : MachineState V) (tests : ℕ) (engine : V) (slots : List Slot) (over : Bool) → IsMachine s → IsReturn (state_of s) → HavePassed tests
+after_kept : {V : Type 0} (s : MachineState V) (tests : ℕ) (engine : V) (slots : List Slot) (over : Bool) → IsMachine s → IsReturn (state_of s) → HavePassed tests s.shared.generator
     → AreWellFormed (record (vault_of s) { slots = slots })
     → IsPublicState (if over then sent_to_tests (use_counted s.shared.public) else use_counted s.shared.public)
     → (let counted : Shared V = record s.shared { public = use_counted s.shared.public; tests_passed = tests; engine = engine } in
@@ -275,7 +210,7 @@ after_kept : {V : Type 0} (s : MachineState V) (tests : ℕ) (engine : V) (slots
     let t : MachineState V = record s { shared = after; slots = slots } in IsMachine t)
 after_kept s tests engine slots true rules use' have are kept = record {
   public = kept;
-  passed = none_done 0;
+  passed = none_done 0 s.shared.generator;
   healthy = λ _. rules.healthy (return_is_faultless (state_of s) use');
   slots = are;
   entering = λ e. cc;
@@ -283,7 +218,7 @@ after_kept s tests engine slots true rules use' have are kept = record {
 }
 after_kept s tests engine slots false rules use' have are kept = record {
   public = kept;
-  passed = use_of_passed (state_of s) s.shared.public.tests_done tests use' have;
+  passed = use_of_passed (state_of s) s.shared.public.tests_done tests s.shared.generator use' have;
   healthy = rules.healthy;
   slots = are;
   entering = rules.entering;
@@ -297,7 +232,7 @@ pub cryptographic_kept : {V : Type 0} (s : MachineState V) (tests : ℕ) (engine
     let t : MachineState V = record s { shared = after_slots counted; slots = slots } in IsMachine t)
 cryptographic_kept s tests engine slots rules allowed includes are =
     let use' = return_for_hash (state_of s) allowed in
-    let have = passed_more tests s.shared.tests_passed includes (passed_in_use (state_of s) s.shared.public.tests_done s.shared.tests_passed use' rules.passed) in
+    let have = passed_more tests s.shared.tests_passed s.shared.generator includes (passed_in_use (state_of s) s.shared.public.tests_done s.shared.tests_passed s.shared.generator use' rules.passed) in
     after_kept s tests engine slots (is_period_over (use_counted s.shared.public)) rules use' have are (used_kept s.shared.public rules.public use')
 
 -- one whose known-answer test failed

@@ -14,6 +14,7 @@ use Rattle.self_tests.specs.TestSet.{has_test, with_test}
 use Rattle.self_tests.specs.KnownAnswers.{answers_right, engine_after}
 use Rattle.self_tests.specs.Integrity.{image_outcome}
 use Rattle.self_tests.proofs.Sets.{test_in_union}
+use Rattle.drbg_core.specs.declared.generator.Drbg.{Drbg}
 use Rattle.module_frames.specs.declared.public_state.PublicState.{PublicState}
 use Rattle.module_frames.specs.PublicEffects.{has_failed}
 use Rattle.engine_core.specs.Calls.{Calls}
@@ -97,30 +98,35 @@ step_tested_by {V} calls engine public tests image digest P passes fails = by_co
     by_count false is false k =
         known test.Generator (λ none. absurd (grind (arith, nat_tests, is, none))) (λ _. has_generator tests) (answers_right calls engine test.Generator)
 
-pub passed_more : (more tests : ℕ) → Includes more tests → HavePassed tests → HavePassed more
-passed_more more tests includes passed = record { mac = includes test.HmacSha256 passed.mac; generator = includes test.Generator passed.generator }
+pub passed_more : (more tests : ℕ) (generator : Drbg) → Includes more tests → HavePassed tests generator → HavePassed more generator
+passed_more more tests generator includes passed = record {
+  mac_passed = includes test.HmacSha256 passed.mac_passed;
+  generator_passed = includes test.Generator passed.generator_passed;
+  seeded = passed.seeded;
+  requests = passed.requests;
+}
 
 -- in a state of use both have passed, and where they have it may be one
-pub passed_in_use : (found : State) (tests_done tests : ℕ) → IsReturn found → ArePassed found tests_done tests → HavePassed tests
-passed_in_use state.Approved tests_done tests use' passed = passed
-passed_in_use state.Officer tests_done tests use' passed = passed
-passed_in_use state.User tests_done tests use' passed = passed
-passed_in_use state.Off tests_done tests use' passed = absurd use'
-passed_in_use state.Init tests_done tests use' passed = absurd use'
-passed_in_use state.SelfTest tests_done tests use' passed = absurd use'
-passed_in_use state.Entry tests_done tests use' passed = absurd use'
-passed_in_use state.Error tests_done tests use' passed = absurd use'
+pub passed_in_use : (found : State) (tests_done tests : ℕ) (generator : Drbg) → IsReturn found → ArePassed found tests_done tests generator → HavePassed tests generator
+passed_in_use state.Approved tests_done tests generator use' passed = passed
+passed_in_use state.Officer tests_done tests generator use' passed = passed
+passed_in_use state.User tests_done tests generator use' passed = passed
+passed_in_use state.Off tests_done tests generator use' passed = absurd use'
+passed_in_use state.Init tests_done tests generator use' passed = absurd use'
+passed_in_use state.SelfTest tests_done tests generator use' passed = absurd use'
+passed_in_use state.Entry tests_done tests generator use' passed = absurd use'
+passed_in_use state.Error tests_done tests generator use' passed = absurd use'
 
-pub use_of_passed : (found : State) (tests_done tests : ℕ) → IsReturn found → HavePassed tests → ArePassed found tests_done tests
-use_of_passed state.Approved tests_done tests use' passed = passed
-use_of_passed state.Officer tests_done tests use' passed = passed
-use_of_passed state.User tests_done tests use' passed = passed
-use_of_passed state.Off tests_done tests use' passed = absurd use'
-use_of_passed state.Init tests_done tests use' passed = absurd use'
-use_of_passed state.SelfTest tests_done tests use' passed = absurd use'
-use_of_passed state.Entry tests_done tests use' passed = absurd use'
-use_of_passed state.Error tests_done tests use' passed = absurd use'
+pub use_of_passed : (found : State) (tests_done tests : ℕ) (generator : Drbg) → IsReturn found → HavePassed tests generator → ArePassed found tests_done tests generator
+use_of_passed state.Approved tests_done tests generator use' passed = passed
+use_of_passed state.Officer tests_done tests generator use' passed = passed
+use_of_passed state.User tests_done tests generator use' passed = passed
+use_of_passed state.Off tests_done tests generator use' passed = absurd use'
+use_of_passed state.Init tests_done tests generator use' passed = absurd use'
+use_of_passed state.SelfTest tests_done tests generator use' passed = absurd use'
+use_of_passed state.Entry tests_done tests generator use' passed = absurd use'
+use_of_passed state.Error tests_done tests generator use' passed = absurd use'
 
 -- before any of three tests was done nothing has to have passed
-pub none_done : (tests : ℕ) → ArePassed state.SelfTest 0 tests
-none_done tests = λ some. absurd (omega (arith, some))
+pub none_done : (tests : ℕ) (generator : Drbg) → ArePassed state.SelfTest 0 tests generator
+none_done tests generator = λ some. absurd (omega (arith, some))

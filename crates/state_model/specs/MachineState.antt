@@ -101,21 +101,23 @@ IsFailure failure.Proportion = Unit {0}
 abbrev pub IsFailureCode : ℕ → Type 0
 IsFailureCode code = (why : Failure) × IsFailure why × (code ≡ failure_code why)
 
--- HMAC-SHA-256 has passed its test, and so has the generator
-pub record HavePassed (tests_passed : ℕ) : Type 0 where
-  pub mac : has_test tests_passed test.HmacSha256 ≡ true
-  pub generator : has_test tests_passed test.Generator ≡ true
+-- HMAC-SHA-256 has passed its test, and so has the generator; and that was seeded, and has answered no more requests than one seed allows
+pub record HavePassed (tests_passed : ℕ) (generator : Drbg) : Type 0 where
+  pub mac_passed : has_test tests_passed test.HmacSha256 ≡ true
+  pub generator_passed : has_test tests_passed test.Generator ≡ true
+  pub seeded : 1 ≤ generator.counter
+  pub requests : generator.counter ≤ 1025
 
--- the tests that have passed in each state: while tests are due, the first once it was done; in every state of use both
-abbrev pub ArePassed : State → ℕ → ℕ → Type 0
-ArePassed state.Off tests_done tests_passed = Unit {0}
-ArePassed state.Init tests_done tests_passed = Unit {0}
-ArePassed state.SelfTest tests_done tests_passed = 1 ≤ tests_done → has_test tests_passed test.HmacSha256 ≡ true
-ArePassed state.Approved tests_done tests_passed = HavePassed tests_passed
-ArePassed state.Officer tests_done tests_passed = HavePassed tests_passed
-ArePassed state.User tests_done tests_passed = HavePassed tests_passed
-ArePassed state.Entry tests_done tests_passed = HavePassed tests_passed
-ArePassed state.Error tests_done tests_passed = Unit {0}
+-- the tests that have passed in each state: while tests are due, the first once it was done; in every state of use both, and the seed
+abbrev pub ArePassed : State → ℕ → ℕ → Drbg → Type 0
+ArePassed state.Off tests_done tests_passed generator = Unit {0}
+ArePassed state.Init tests_done tests_passed generator = Unit {0}
+ArePassed state.SelfTest tests_done tests_passed generator = 1 ≤ tests_done → has_test tests_passed test.HmacSha256 ≡ true
+ArePassed state.Approved tests_done tests_passed generator = HavePassed tests_passed generator
+ArePassed state.Officer tests_done tests_passed generator = HavePassed tests_passed generator
+ArePassed state.User tests_done tests_passed generator = HavePassed tests_passed generator
+ArePassed state.Entry tests_done tests_passed generator = HavePassed tests_passed generator
+ArePassed state.Error tests_done tests_passed generator = Unit {0}
 
 -- the rules of what everyone may see
 pub record IsPublicState (public : PublicState) : Type 0 where
@@ -138,8 +140,8 @@ pub record IsPublicState (public : PublicState) : Type 0 where
 -- the rules
 pub record IsWellFormed {V : Type 0} (s : MachineState V) : Type 0 where
   pub public : IsPublicState s.shared.public
-  -- no state of use without the tests that lead to it
-  pub passed : ArePassed (state_of s) s.shared.public.tests_done s.shared.tests_passed
+  -- no state of use without the tests and the seed that lead to it
+  pub passed : ArePassed (state_of s) s.shared.public.tests_done s.shared.tests_passed s.shared.generator
   -- the noise was healthy, but where that failed
   pub healthy : state_of s ≢ state.Error → AreHealthy s.shared.samples
   -- each slot is empty, and zero then, or holds a parameter that fits; and there are sixteen rows, each a set of slots

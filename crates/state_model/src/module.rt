@@ -5,7 +5,7 @@ ghost use Rattle.service_table.specs.Numbers.{service_numbered};
 ghost use Rattle.outside.specs.declared.traits.Sample.{Sample};
 ghost use Rattle.outside.specs.Explained.{Explained};
 ghost use Rattle.outside.specs.Faults.{FaultCounted};
-ghost use Rattle.module_frames.specs.Requests.{CryptographicRequest, Cryptographic, request_value, service_for, IsInRange, IsCryptographicInRange};
+ghost use Rattle.module_frames.specs.Requests.{CryptographicRequest, Cryptographic, TestStep, request_value, service_for, IsInRange, IsCryptographicInRange};
 ghost use Rattle.module_frames.specs.PublicState.{status_block, sequence_block, no_block};
 ghost use Rattle.module_frames.specs.PublicEffects.{is_period_over, sent_to_tests};
 ghost use Rattle.bits_core.specs.Parameters.{length_fits};
@@ -24,7 +24,7 @@ ghost use Rattle.state_model.specs.Represents.{Represents, IsRepresented, IsServ
 use crate::commit::commit;
 use crate::cryptographic::run_cryptographic_service;
 use crate::entry::{Entry, Target};
-use crate::self_testing::{due_at_first_use, run_step_test, run_test, test_for};
+use crate::self_testing::{due_at_first_use, run_step_test, run_test, seed_when_due, test_for};
 use bits_core::{Header, Outbox, SlotId};
 use crypto_services::{Outcome, Parts};
 use engine_core::Engine;
@@ -164,11 +164,12 @@ impl<E: Engine> Module<E> {
         self.tests_passed = Tested::empty();
     }
 
-    // TestStep: the test that is due is made.
-    fn test_step(&mut self) -> Status
+    // TestStep: the test that is due is made, and after the last one the generator is seeded.
+    fn test_step<N: Noise>(&mut self, noise: &mut N) -> Status
         requires { self.old.public.state ≡ State.SelfTest }
-        ensures { (s : MachineState E) (events : List Sample) → Represents self.old s →
-            IsServiceResult (test_step E.calls s events) self.new result no_block [] }
+        ensures answer { Explained (N.left noise.old) (N.left noise.new) (λ events left. (s : MachineState E) → Represents self.old s →
+            let after = test_step E.calls s events in IsServiceResult after self.new result no_block [] × (after.left ≡ left)) }
+        ensures noise_failed { result ≡ Status.NoiseFault → self.new.public.error_code ≡ 0x0400 → FaultCounted (N.faults noise.old) (N.faults noise.new) }
     {
         let tests_passed = self.tests_passed;
         let judged = run_step_test(
@@ -178,9 +179,10 @@ impl<E: Engine> Module<E> {
             &self.image,
             &self.digest,
         );
-        let (public, status) = after_test(judged.public, judged.refused);
+        let seeded = seed_when_due(&mut self.parts, noise, judged);
+        let (public, status) = after_test(seeded.public, seeded.refused);
         self.public = public;
-        self.tests_passed = judged.tests_passed;
+        self.tests_passed = seeded.tests_passed;
         status
     }
 
@@ -315,18 +317,18 @@ impl<E: Engine> Module<E> {
         outcome
     }
 
-    // Does any other service, and fills the block.
+    // Does any service that is no cryptographic one, but TestStep, and fills the block.
     fn run_management_service(&mut self, request: Request<'_>, block: &mut [u8; 12]) -> Status
         requires block { block.old ≡ no_block }
         requires in_range { IsInRange (request_value request) }
         requires other { is_cryptographic (service_for (request_value request)) ≡ false }
+        requires no_noise { request_value request ≢ TestStep }
         requires permitted { IsPermittedIn (request_value request) self.old.public.state }
         ensures answer { (s : MachineState E) (events : List Sample) → Represents self.old s →
             IsServiceResult (perform E.calls s events (request_value request.entry)) self.new result block.new [] }
     {
         match request {
             Request::PowerOn { period } => self.power_on(period),
-            Request::TestStep => return self.test_step(),
             Request::RequestTests => self.request_tests(),
             Request::ShowStatus => self.show_status(block),
             Request::ShowVersion => *block = VERSION,
@@ -347,7 +349,10 @@ impl<E: Engine> Module<E> {
             Request::Zeroise { slot } => self.zeroise(slot),
             Request::ZeroiseAll => self.zeroise_all(),
             Request::ShowSlot { slot } => self.show_slot(slot, block),
-            Request::Hash { .. } | Request::Mac { .. } | Request::MacVerify { .. } => {
+            Request::TestStep
+            | Request::Hash { .. }
+            | Request::Mac { .. }
+            | Request::MacVerify { .. } => {
                 unreachable!()
             }
         }
@@ -371,12 +376,19 @@ impl<E: Engine> Module<E> {
     }
 
     // Refuses a command that comes out of its order, and dispatches any other.
-    fn step(&mut self, command: &Command, block: &mut [u8; 12], payload: &mut Outbox) -> Outcome
+    fn step<N: Noise>(
+        &mut self,
+        command: &Command,
+        noise: &mut N,
+        block: &mut [u8; 12],
+        payload: &mut Outbox,
+    ) -> Outcome
         requires block { block.old ≡ no_block }
         requires payload { payload.old ≡ holding [] LARGEST_PAYLOAD }
-        ensures answer { (s : MachineState E) (events : List Sample) → Represents self.old s →
+        ensures answer { Explained (N.left noise.old) (N.left noise.new) (λ events left. (s : MachineState E) → Represents self.old s →
             let after = step E.calls s events command.now in
-            IsServiceResult after self.new result.status block.new payload.new.bytes × (after.left ≡ events) }
+            IsServiceResult after self.new result.status block.new payload.new.bytes × (after.left ≡ left)) }
+        ensures noise_failed { result.status ≡ Status.NoiseFault → self.new.public.error_code ≡ 0x0400 → FaultCounted (N.faults noise.old) (N.faults noise.new) }
         ensures approved { result.approved ≡ indicated (request_at (service_numbered command.now.service) command.now.body) result.status self.new.vault.slots }
         ensures room { payload.new.room ≡ LARGEST_PAYLOAD }
     {
@@ -384,16 +396,23 @@ impl<E: Engine> Module<E> {
             *block = self.public.sequence_block();
             return management_outcome(Status::OutOfOrder);
         }
-        self.dispatch(command, block, payload)
+        self.dispatch(command, noise, block, payload)
     }
 
     // Walks the order of refusals, and does what is asked where the command passes.
-    fn dispatch(&mut self, command: &Command, block: &mut [u8; 12], payload: &mut Outbox) -> Outcome
+    fn dispatch<N: Noise>(
+        &mut self,
+        command: &Command,
+        noise: &mut N,
+        block: &mut [u8; 12],
+        payload: &mut Outbox,
+    ) -> Outcome
         requires block { block.old ≡ no_block }
         requires payload { payload.old ≡ holding [] LARGEST_PAYLOAD }
-        ensures answer { (s : MachineState E) (events : List Sample) → Represents self.old s →
+        ensures answer { Explained (N.left noise.old) (N.left noise.new) (λ events left. (s : MachineState E) → Represents self.old s →
             let after = dispatch E.calls s events (service_numbered command.now.service) command.now.body in
-            IsServiceResult after self.new result.status block.new payload.new.bytes × (after.left ≡ events) }
+            IsServiceResult after self.new result.status block.new payload.new.bytes × (after.left ≡ left)) }
+        ensures noise_failed { result.status ≡ Status.NoiseFault → self.new.public.error_code ≡ 0x0400 → FaultCounted (N.faults noise.old) (N.faults noise.new) }
         ensures approved { result.approved ≡ indicated (request_at (service_numbered command.now.service) command.now.body) result.status self.new.vault.slots }
         ensures room { payload.new.room ≡ LARGEST_PAYLOAD }
     {
@@ -409,6 +428,9 @@ impl<E: Engine> Module<E> {
         if is_cryptographic(service) {
             return self.run_cryptographic_service(&request, payload);
         }
+        if service == Service::TestStep {
+            return management_outcome(self.test_step(noise));
+        }
         management_outcome(self.run_management_service(request, block))
     }
 
@@ -419,13 +441,14 @@ impl<E: Engine> Module<E> {
         // that explain them.
         ensures step { Explained (N.left noise.old) (N.left noise.new) (λ events left. (s : MachineState E) → Represents self.old s →
             let after = step E.calls s events command.now in Replies command.now after self.new reply.new × (after.left ≡ left)) }
-        ensures noise_failed { reply.new.status ≡ Status.NoiseFault → FaultCounted (N.faults noise.old) (N.faults noise.new) }
+        // That the noise failed is told only where its count of faults rose.
+        ensures noise_failed { reply.new.status ≡ Status.NoiseFault → reply.new.code ≡ 0x0400 → FaultCounted (N.faults noise.old) (N.faults noise.new) }
         ensures represented { IsRepresented self.new }
     {
         // Opened, so that the module's rules are known of what it finds.
         let _ = &self.public;
         reply.clear();
-        let outcome = self.step(command, &mut reply.block, &mut reply.payload);
+        let outcome = self.step(command, noise, &mut reply.block, &mut reply.payload);
         let number = command.sequence();
         reply.service = command.service();
         reply.sequence = number;

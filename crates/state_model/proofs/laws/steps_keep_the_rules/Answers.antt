@@ -5,4 +5,4 @@ pub returns-clause-begins : goal.returns-clause-begins
 returns-clause-begins g c engine image digest = begins engine image digest
 
 pub returns-clause-keeps : goal.returns-clause-keeps
-returns-clause-keeps g c = keeps g.E.Engine.calls
+returns-clause-keeps g c = keeps g.E.Engine.calls g.met.E.Engine.keeps
