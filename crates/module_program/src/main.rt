@@ -1,4 +1,4 @@
-//! The program: the words after its name, standard input and standard output, and the exit status.
+//! The program: the words after its name, the files that they name, standard input and standard output, and the exit status.
 #![tactic(auto)]
 
 #[cfg(test)]
@@ -14,7 +14,7 @@ mod tests;
 
 use engine_core::Shipped;
 use module_top::{RunFault, run};
-use outside::{StdSink, StdSource};
+use outside::{DiskFiles, StdSink, StdSource};
 use std::env::{self, Env};
 use std::io;
 use std::process::ExitCode;
@@ -29,12 +29,13 @@ fn words_of<R: Env + AllocGlobal>(rt: &R) -> io::Result<Vec<String>> {
     Ok(words)
 }
 
-// Runs on real streams. A word that isn't UTF-8 is a faulty command line.
+// Runs on real files and streams. A word that isn't UTF-8 is a faulty command line.
 fn main(rt: HostRuntime) -> ExitCode {
     let status = match words_of(&rt) {
         Ok(words) => run(
             rt.alloc(),
             &words,
+            &mut DiskFiles::new(&rt),
             &mut StdSource::new(rt.stdin()),
             &mut StdSink::new(rt.stdout()),
             Shipped::new(),

@@ -1,5 +1,5 @@
 -- The faults of the program: their exit statuses and their texts.
-use Rattle.std.specs.Prelude.{ℕ, ◌==◌, List, Option, Some, None, if◌then◌else◌, codes}
+use Rattle.std.specs.Prelude.{ℕ, ◌==◌, List, Option, Some, None, if◌then◌else◌, codes, Result, Ok, Err}
 use Rattle.module_top.specs.declared.faults.RunFault.{RunFault}
 use Rattle.module_top.specs.declared.faults.RunFault.TheVariants as fault
 
@@ -11,14 +11,38 @@ fault_of status =
     else if status == 5 then Some fault.ReadFailed
     else if status == 6 then Some fault.WriteFailed
     else if status == 7 then Some fault.OutOfMemory
+    else if status == 8 then Some fault.FileFailed
+    else if status == 9 then Some fault.ImageTooLong
+    else if status == 11 then Some fault.BadDigest
     else if status == 12 then Some fault.StreamTooLong
     else None
 
+-- the exit status for a fault
+abbrev pub status_of : RunFault → ℕ
+status_of fault.Usage = 2
+status_of fault.BadFrame = 3
+status_of fault.Truncated = 4
+status_of fault.ReadFailed = 5
+status_of fault.WriteFailed = 6
+status_of fault.OutOfMemory = 7
+status_of fault.FileFailed = 8
+status_of fault.ImageTooLong = 9
+status_of fault.BadDigest = 11
+status_of fault.StreamTooLong = 12
+
+-- the exit status for how a run ended: 0 where all was done
+abbrev pub result_status : {X : Type 0} → Result X RunFault → ℕ
+result_status (Ok done) = 0
+result_status (Err fault) = status_of fault
+
 abbrev pub text_of : RunFault → List ℕ
-text_of fault.Usage = codes "usage: serve"
+text_of fault.Usage = codes "usage: serve or digest"
 text_of fault.BadFrame = codes "bad frame"
 text_of fault.Truncated = codes "truncated frame"
 text_of fault.ReadFailed = codes "read failed"
 text_of fault.WriteFailed = codes "write failed"
 text_of fault.OutOfMemory = codes "out of memory"
+text_of fault.FileFailed = codes "file failed"
+text_of fault.ImageTooLong = codes "image too long"
+text_of fault.BadDigest = codes "bad digest file"
 text_of fault.StreamTooLong = codes "stream too long"

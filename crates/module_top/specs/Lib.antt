@@ -5,5 +5,7 @@ pub mod PartialWrites
 pub mod Run
 pub mod Chunks
 pub mod Serving
+pub mod DigestFile
 pub mod Program
+pub mod Outcomes
 pub mod Faults

@@ -1,6 +1,6 @@
 // Why the program ended, other than at the end of its input.
 ghost use Rattle.std.specs.Prelude.{◌≡◌};
-ghost use Rattle.module_top.specs.Faults.{fault_of};
+ghost use Rattle.module_top.specs.Faults.{fault_of, status_of};
 
 use std::fmt;
 
@@ -19,6 +19,12 @@ pub enum RunFault {
     WriteFailed,
     /// 7: there was no memory to begin.
     OutOfMemory,
+    /// 8: a file couldn't be read.
+    FileFailed,
+    /// 9: the image has more than 16,777,216 bytes.
+    ImageTooLong,
+    /// 11: the digest file isn't 64 hex digits and at most one LF.
+    BadDigest,
     /// 12: the input has 2^40 bytes or more.
     StreamTooLong,
 }
@@ -35,13 +41,34 @@ impl RunFault {
             5 => Some(RunFault::ReadFailed),
             6 => Some(RunFault::WriteFailed),
             7 => Some(RunFault::OutOfMemory),
+            8 => Some(RunFault::FileFailed),
+            9 => Some(RunFault::ImageTooLong),
+            11 => Some(RunFault::BadDigest),
             12 => Some(RunFault::StreamTooLong),
             _ => None,
         }
     }
+
+    /// The exit status for the fault.
+    pub(crate) fn status(self) -> u8
+        ensures { result ≡ status_of self }
+    {
+        match self {
+            RunFault::Usage => 2,
+            RunFault::BadFrame => 3,
+            RunFault::Truncated => 4,
+            RunFault::ReadFailed => 5,
+            RunFault::WriteFailed => 6,
+            RunFault::OutOfMemory => 7,
+            RunFault::FileFailed => 8,
+            RunFault::ImageTooLong => 9,
+            RunFault::BadDigest => 11,
+            RunFault::StreamTooLong => 12,
+        }
+    }
 }
 
-/// The text that the program writes to standard error.
+/// The text that the program writes to standard error. That for `Usage` names the words that the program knows.
 impl fmt::Display for RunFault {
     ghost use Rattle.std.specs.Prelude.{Some};
     ghost use Rattle.module_top.specs.Faults.{text_of};
@@ -50,12 +77,15 @@ impl fmt::Display for RunFault {
 
     fn fmt<W: fmt::Write>(&self, f: &mut fmt::Formatter<W>) -> fmt::Result {
         f.write_str(match self {
-            RunFault::Usage => "usage: serve",
+            RunFault::Usage => "usage: serve or digest",
             RunFault::BadFrame => "bad frame",
             RunFault::Truncated => "truncated frame",
             RunFault::ReadFailed => "read failed",
             RunFault::WriteFailed => "write failed",
             RunFault::OutOfMemory => "out of memory",
+            RunFault::FileFailed => "file failed",
+            RunFault::ImageTooLong => "image too long",
+            RunFault::BadDigest => "bad digest file",
             RunFault::StreamTooLong => "stream too long",
         })
     }

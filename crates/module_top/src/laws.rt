@@ -3,7 +3,7 @@ ghost use Rattle.module_top.specs.Program.{HasOneOutput};
 
 use engine_core::Engine;
 
-/// The definition leaves nothing open: for an engine, words and input there is one status and one output.
+/// The definition leaves nothing open: for an engine, words, files and input there is one status and one output.
 pub fn has_one_output<E: Engine>()
     ensures { HasOneOutput E.calls }
 {}

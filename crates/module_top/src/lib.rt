@@ -3,10 +3,15 @@
 
 mod answering;
 mod codec;
+mod digest_file;
+mod digesting;
 mod faults;
+#[cfg(test)]
+mod file_tests;
 mod frame_codec;
 mod laws;
 mod limits;
+mod loading;
 #[cfg(test)]
 mod run_tests;
 mod running;

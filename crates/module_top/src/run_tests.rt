@@ -1,6 +1,7 @@
-// Whole runs: worked streams, streams that are cut or broken, calls that fail, and words.
+// Whole runs of `serve`: worked streams, streams that are cut or broken, and reads and writes that fail.
 ghost use Rattle.std.specs.Prelude.{◌≤◌};
 
+use crate::file_tests::{DIGEST, SERVE, files_of, words_of};
 use crate::run;
 use engine_core::Shipped;
 use outside::{MemSink, MemSource};
@@ -20,22 +21,22 @@ const REPLIES: [u8; 72] = [
     0x5c, 0x01, 0x07, 0x00, 0x01, 0, 0, 0, 0, 0, 0, 0, 0, 0, 0, 0, 0, 0, 0, 0, 0, 0, 0, 0,
 ];
 
-fn words_of(alloc: Global, words: &[&str]) -> Result<Vec<String>, Fail> {
-    let mut all = Vec::new(alloc);
-    for word in words {
-        all.push(String::from_str(alloc, word)?)?;
-    }
-    Ok(all)
-}
-
 // Runs over these bytes, which come so many at a time.
-fn outcome(alloc: Global, words: &[&str], bytes: &[u8], step: usize) -> Result<(u8, MemSink), Fail>
+fn outcome(alloc: Global, bytes: &[u8], step: usize) -> Result<(u8, MemSink), Fail>
     requires { 1 ≤ step }
 {
-    let words = words_of(alloc, words)?;
+    let words = words_of(alloc, &SERVE)?;
+    let mut files = files_of(alloc, b"abc".to_vec(alloc)?, DIGEST, &[])?;
     let mut commands = MemSource::new(bytes.to_vec(alloc)?, step, Vec::new(alloc));
     let mut replies = MemSink::new(alloc, 200, 24, Vec::new(alloc))?;
-    let status = run(alloc, &words, &mut commands, &mut replies, Shipped::new());
+    let status = run(
+        alloc,
+        &words,
+        &mut files,
+        &mut commands,
+        &mut replies,
+        Shipped::new(),
+    );
     Ok((status, replies))
 }
 
@@ -46,10 +47,18 @@ fn with_faults(
     writes: &[u64],
     room: usize,
 ) -> Result<(u8, MemSink), Fail> {
-    let words = words_of(alloc, &["serve"])?;
+    let words = words_of(alloc, &SERVE)?;
+    let mut files = files_of(alloc, b"abc".to_vec(alloc)?, DIGEST, &[])?;
     let mut commands = MemSource::new(STREAM.to_vec(alloc)?, 8, reads.to_vec(alloc)?);
     let mut replies = MemSink::new(alloc, room, 24, writes.to_vec(alloc)?)?;
-    let status = run(alloc, &words, &mut commands, &mut replies, Shipped::new());
+    let status = run(
+        alloc,
+        &words,
+        &mut files,
+        &mut commands,
+        &mut replies,
+        Shipped::new(),
+    );
     Ok((status, replies))
 }
 
@@ -91,7 +100,7 @@ fn answers_the_worked_streams(rt: HostRuntime) -> Result<(), Fail> {
     ];
     for (bytes, want, status) in rows {
         for step in [1, 65_536] {
-            let (got, replies) = outcome(rt.alloc(), &["serve"], bytes, step)?;
+            let (got, replies) = outcome(rt.alloc(), bytes, step)?;
             assert_eq!(rt; got, status);
             assert_eq!(rt; replies.bytes(), want);
         }
@@ -107,7 +116,7 @@ fn knows_a_frame_of_the_longest_body(rt: HostRuntime) -> Result<(), Fail> {
     bytes[2] = 0x04;
     bytes[5] = 0x01;
     bytes[7] = 0x40;
-    let (status, replies) = outcome(rt.alloc(), &["serve"], &bytes, 1_000)?;
+    let (status, replies) = outcome(rt.alloc(), &bytes, 1_000)?;
     assert_eq!(rt; status, 0);
     assert_eq!(rt;
         replies.bytes(),
@@ -123,7 +132,7 @@ fn knows_a_frame_of_the_longest_body(rt: HostRuntime) -> Result<(), Fail> {
 fn powers_on_once(rt: HostRuntime) -> Result<(), Fail> {
     let mut bytes = STREAM[..12].to_vec(rt.alloc())?;
     bytes.extend_from_slice(&STREAM[..12])?;
-    let (status, replies) = outcome(rt.alloc(), &["serve"], &bytes, 5)?;
+    let (status, replies) = outcome(rt.alloc(), &bytes, 5)?;
     assert_eq!(rt; status, 0);
     assert_eq!(rt; replies.bytes().len(), 48);
     assert_eq!(rt;
@@ -136,7 +145,7 @@ fn powers_on_once(rt: HostRuntime) -> Result<(), Fail> {
 #[test]
 fn answers_the_whole_commands_of_a_cut_stream(rt: HostRuntime) -> Result<(), Fail> {
     for length in 0..29 {
-        let (status, replies) = outcome(rt.alloc(), &["serve"], &STREAM[..length], 7)?;
+        let (status, replies) = outcome(rt.alloc(), &STREAM[..length], 7)?;
         let whole = length == 0 || length == 12 || length == 20 || length == 28;
         let count = usize::from(length >= 12)
             + usize::from(length >= 20)
@@ -156,7 +165,7 @@ const NUMBERED_REPLY: [u8; 28] =
 #[test]
 fn a_numbered_frame_is_cut_at_each_byte(rt: HostRuntime) -> Result<(), Fail> {
     for length in 0..14 {
-        let (status, replies) = outcome(rt.alloc(), &["serve"], &NUMBERED[..length], 5)?;
+        let (status, replies) = outcome(rt.alloc(), &NUMBERED[..length], 5)?;
         let whole = length == 13;
         assert_eq!(rt; status, if whole || length == 0 { 0 } else { 4 });
         let want: &[u8] = if whole { &NUMBERED_REPLY } else { &[] };
@@ -176,7 +185,7 @@ fn refuses_a_header_with_another_byte(rt: HostRuntime) -> Result<(), Fail> {
         for byte in bytes {
             let mut stream = STREAM;
             stream[place] = byte;
-            let (status, replies) = outcome(rt.alloc(), &["serve"], &stream, 28)?;
+            let (status, replies) = outcome(rt.alloc(), &stream, 28)?;
             assert_eq!(rt; status, 3);
             assert_eq!(rt; replies.bytes(), [].as_slice());
         }
@@ -204,22 +213,5 @@ fn ends_at_a_failed_write(rt: HostRuntime) -> Result<(), Fail> {
     let (status, replies) = with_faults(rt.alloc(), &[], &[], 0)?;
     assert_eq!(rt; status, 6);
     assert_eq!(rt; replies.bytes(), [].as_slice());
-    Ok(())
-}
-
-#[test]
-fn knows_no_other_words(rt: HostRuntime) -> Result<(), Fail> {
-    let rows: [&[&str]; 5] = [
-        &[],
-        &["Serve"],
-        &["serve", "serve"],
-        &["operate"],
-        &["--help"],
-    ];
-    for words in rows {
-        let (status, replies) = outcome(rt.alloc(), words, &STREAM, 28)?;
-        assert_eq!(rt; status, 2);
-        assert_eq!(rt; replies.bytes(), [].as_slice());
-    }
     Ok(())
 }

@@ -1,52 +1,56 @@
-// The program, from its words and its input to its exit status and its output.
-ghost use Rattle.std.specs.Prelude.{◌≡◌, ◌≢◌, ◌↔◌, ◌⊎◌, ◌++◌, [], ℕ, List, Some, None, IfOk, OnOk, OnErr, map};
+// The program, from its words, its files and its input to its exit status and its output.
+ghost use Rattle.std.specs.Prelude.{◌≡◌, ◌≢◌, ◌↔◌, ◌++◌, [], ℕ, List, Some, None, false, true, IfOk, IfSome, OnErr, map};
 ghost use Rattle.std.specs.String.{string_bytes};
-ghost use Rattle.outside.specs.declared.traits.Sample.{Sample};
+ghost use Rattle.outside.specs.Explained.{Explained};
 ghost use Rattle.outside.specs.Faults.{FaultCounted};
+ghost use Rattle.outside.specs.FilesContent.{FilesContent};
 ghost use Rattle.state_model.specs.ModuleView.{ModuleView};
 ghost use Rattle.state_model.specs.MachineState.{initial_state};
 ghost use Rattle.module_top.specs.FrameGrammar.{frame_grammar};
 ghost use Rattle.module_top.specs.Serving.{Serves};
-ghost use Rattle.module_top.specs.Program.{form_of, exit_status, IsProgramOutput};
+ghost use Rattle.module_top.specs.Faults.{result_status};
+ghost use Rattle.module_top.specs.Program.{FormValue, Serve, Digest, form_of, exit_status, IsProgramOutput};
+ghost use Rattle.module_top.specs.Outcomes.{is_refusal, HasLongImage, HasBadDigest, IsWorkOf, IsOutcome};
 
+use crate::digesting::digest_image;
+use crate::faults::RunFault;
 use crate::limits::CHUNK;
+use crate::loading::{load_digest, load_image, open_noise};
 use crate::serving::{Ended, serve};
 use crate::words::{Form, form_of};
 use engine_core::Engine;
 use module_frames::{Frames, Reply};
-use outside::{MemNoise, Sink, Source};
+use outside::{Files, Noise, Sink, Source};
 use state_model::Module;
 use std::alloc::{AllocError, Global};
 
-// The exit status of a faulty command line, and of want of memory.
-const USAGE: u8 = 2;
-
-const OUT_OF_MEMORY: u8 = 7;
-
 // Takes all the memory, and then serves. Without memory nothing is read or written.
-fn open_and_serve<E: Engine, S: Source, K: Sink>(
+fn open_and_serve<E: Engine, N: Noise, S: Source, K: Sink>(
     alloc: Global,
     engine: E,
+    image: Vec<u8>,
+    digest: [u8; 32],
+    noise: &mut N,
     commands: &mut S,
     replies: &mut K,
 ) -> Result<Ended, AllocError>
-    ensures served { IfOk result (λ ending. (m : ModuleView E) × (left : List Sample) × Serves frame_grammar E.calls ending CHUNK (initial_state engine) m
+    ensures served { IfOk result (λ ending. (view : ModuleView E) × Explained (N.left noise.old) (N.left noise.new)
+        (Serves frame_grammar E.calls ending CHUNK (initial_state engine image.items digest) view
         (record { left = S.left commands.old; gained = K.gained replies.old })
-        (record { left = S.left commands.new; gained = K.gained replies.new }) [] left) }
+        (record { left = S.left commands.new; gained = K.gained replies.new }))) }
     ensures untouched { OnErr result ((commands.new ≡ commands.old) × (replies.new ≡ replies.old)) }
     ensures read_fault { IfOk result (λ ending. ending ≡ Ended.ReadFault → FaultCounted (S.faults commands.old) (S.faults commands.new)) }
     ensures reads_unchanged { IfOk result (λ ending. ending ≢ Ended.ReadFault → S.faults commands.new ≡ S.faults commands.old) }
     ensures write_fault { IfOk result (λ ending. ending ≡ Ended.WriteFault → FaultCounted (K.faults replies.old) (K.faults replies.new)) }
     ensures writes_unchanged { IfOk result (λ ending. ending ≢ Ended.WriteFault → K.faults replies.new ≡ K.faults replies.old) }
 {
-    let mut noise = MemNoise::new(Vec::new(alloc));
-    let mut module = Module::open(alloc, engine)?;
+    let mut module = Module::open(alloc, engine, image, digest)?;
     let mut frames = Frames::new(alloc)?;
     let mut reply = Reply::new(alloc)?;
     let mut chunk = vec![in alloc; 0; CHUNK]?;
     Ok(serve(
         &mut module,
-        &mut noise,
+        noise,
         commands,
         replies,
         &mut frames,
@@ -55,59 +59,154 @@ fn open_and_serve<E: Engine, S: Source, K: Sink>(
     ))
 }
 
-fn exit_status(ended: Ended) -> u8
-    ensures { result ≡ exit_status ended }
+// The fault for how serving ended, where that wasn't at the end of the input.
+fn result_of(ended: Ended) -> Result<(), RunFault>
+    ensures { result_status result ≡ exit_status ended }
 {
     match ended {
-        Ended::End => 0,
-        Ended::BadFrame(_) => 3,
-        Ended::Truncated => 4,
-        Ended::ReadFault => 5,
-        Ended::WriteFault => 6,
-        Ended::Limit => 12,
+        Ended::End => Ok(()),
+        Ended::BadFrame(_) => Err(RunFault::BadFrame),
+        Ended::Truncated => Err(RunFault::Truncated),
+        Ended::ReadFault => Err(RunFault::ReadFailed),
+        Ended::WriteFault => Err(RunFault::WriteFailed),
+        Ended::Limit => Err(RunFault::StreamTooLong),
+    }
+}
+
+// Loads image and digest, opens the noise, and serves.
+fn serve_files<E: Engine, F: Files, S: Source, K: Sink>(
+    alloc: Global,
+    image_name: &str,
+    digest_name: &str,
+    noise_name: &str,
+    files: &mut F,
+    commands: &mut S,
+    replies: &mut K,
+    engine: E,
+) -> Result<(), RunFault>
+    ensures outcome { IsOutcome E.calls engine (F.content files.old) (Some (Serve image_name.now digest_name.now noise_name.now)) (result_status result)
+        (record {
+          source = commands.old;
+          sink = replies.old;
+          streams = record { left = S.left commands.old; gained = K.gained replies.old };
+          file_faults = F.faults files.old;
+          read_faults = S.faults commands.old;
+          write_faults = K.faults replies.old;
+        })
+        (record {
+          source = commands.new;
+          sink = replies.new;
+          streams = record { left = S.left commands.new; gained = K.gained replies.new };
+          file_faults = F.faults files.new;
+          read_faults = S.faults commands.new;
+          write_faults = K.faults replies.new;
+        }) }
+{
+    let image = load_image(alloc, files, image_name)?;
+    let digest = load_digest(alloc, files, digest_name)?;
+    let mut noise = open_noise(files, noise_name)?;
+    match open_and_serve(alloc, engine, image, digest, &mut noise, commands, replies) {
+        Ok(ended) => result_of(ended),
+        Err(_) => Err(RunFault::OutOfMemory),
+    }
+}
+
+// Does what the words say.
+fn perform<E: Engine, F: Files, S: Source, K: Sink>(
+    alloc: Global,
+    words: &[String],
+    files: &mut F,
+    commands: &mut S,
+    replies: &mut K,
+    engine: E,
+) -> Result<(), RunFault>
+    ensures outcome { IsOutcome E.calls engine (F.content files.old) (form_of (map string_bytes words.now)) (result_status result)
+        (record {
+          source = commands.old;
+          sink = replies.old;
+          streams = record { left = S.left commands.old; gained = K.gained replies.old };
+          file_faults = F.faults files.old;
+          read_faults = S.faults commands.old;
+          write_faults = K.faults replies.old;
+        })
+        (record {
+          source = commands.new;
+          sink = replies.new;
+          streams = record { left = S.left commands.new; gained = K.gained replies.new };
+          file_faults = F.faults files.new;
+          read_faults = S.faults commands.new;
+          write_faults = K.faults replies.new;
+        }) }
+{
+    match form_of(words) {
+        None => Err(RunFault::Usage),
+        Some(
+            Form::Serve {
+                image,
+                digest,
+                noise,
+            },
+        ) => serve_files(
+            alloc, image, digest, noise, files, commands, replies, engine,
+        ),
+        Some(Form::Digest { image }) => digest_image(alloc, image, files, replies, engine),
+    }
+}
+
+// The exit status for how the run ended.
+fn status_of(ended: Result<(), RunFault>) -> u8
+    ensures { result ≡ result_status ended }
+{
+    match ended {
+        Ok(()) => 0,
+        Err(fault) => fault.status(),
     }
 }
 
 /// Runs the program on the words after its name, with an engine, and answers its exit status.
 ///
-/// The words are `serve` alone: commands come from the source, and their replies go to the sink. No service draws from noise yet, and
-/// the module is handed none.
-pub fn run<E: Engine, S: Source, K: Sink>(
+/// `serve IMAGE DIGEST NOISE`: commands come from the source, and their replies go to the sink. The module has the image, the digest that
+/// the digest file spells, and the noise. `digest IMAGE`: the image's digest goes to the sink, as 64 lower-case hex digits and an LF. The
+/// image has at most 16,777,216 bytes, the digest file 64 hex digits of either case and at most one LF behind them.
+///
+/// Words, image, digest file and noise are looked at in this order, and then memory is taken, before anything is read or written.
+pub fn run<E: Engine, F: Files, S: Source, K: Sink>(
     alloc: Global,
     words: &[String],
+    files: &mut F,
     commands: &mut S,
     replies: &mut K,
     engine: E,
 ) -> u8
     // Where no call fails and memory was found, status and written bytes are those of the definition, however the source hands
     // out its bytes.
-    ensures output { (bytes before : List ℕ) → S.left commands.old ≡ Some bytes → K.gained replies.old ≡ Some before →
-        result ≢ 5 → result ≢ 6 → result ≢ 7 →
-        (out : List ℕ) × IsProgramOutput E.calls engine (map string_bytes words.now) bytes result out × (K.gained replies.new ≡ Some (before ++ out)) }
+    ensures output { (all : FilesContent) (bytes before : List ℕ) → F.content files.old ≡ Some all → S.left commands.old ≡ Some bytes →
+        K.gained replies.old ≡ Some before → result ≢ 5 → result ≢ 6 → result ≢ 7 → result ≢ 8 →
+        (out : List ℕ) × IsProgramOutput E.calls engine (map string_bytes words.now) all bytes result out × (K.gained replies.new ≡ Some (before ++ out)) }
 
     // Words that have no form are a faulty command line, and nothing else is.
     ensures usage { (result ≡ 2) ↔ (form_of (map string_bytes words.now) ≡ None) }
 
-    // A faulty command line and want of memory leave source and sink as they were.
-    ensures untouched { (result ≡ 2) ⊎ (result ≡ 7) → (commands.new ≡ commands.old) × (replies.new ≡ replies.old) }
+    // A run that is refused leaves source and sink as they were, and that of `digest` the source in any case.
+    ensures untouched { is_refusal result ≡ true → (commands.new ≡ commands.old) × (replies.new ≡ replies.old) }
+    ensures source_stays { (image : List ℕ) → form_of (map string_bytes words.now) ≡ Some (Digest image) → commands.new ≡ commands.old }
 
-    // Else the run over the bytes taken was done: all of it was answered, or up to a failed write a part of it.
-    ensures served { result ≢ 2 → result ≢ 7 → (ending : Ended) × (result ≡ exit_status ending) × (m : ModuleView E) × (left : List Sample)
-        × Serves frame_grammar E.calls ending CHUNK (initial_state engine) m
+    // A file is refused exactly where it is too long or not of its form.
+    ensures image_too_long { IfSome (F.content files.old) (λ all. result ≢ 7 → result ≢ 8 → (result ≡ 9) ↔ HasLongImage all (form_of (map string_bytes words.now))) }
+    ensures bad_digest { IfSome (F.content files.old) (λ all. result ≢ 7 → result ≢ 8 → (result ≡ 11) ↔ HasBadDigest all (form_of (map string_bytes words.now))) }
+
+    // Else the work was done, or up to a failed call a part of it.
+    ensures done { is_refusal result ≡ false → IsWorkOf E.calls engine (F.content files.old) (form_of (map string_bytes words.now)) result
         (record { left = S.left commands.old; gained = K.gained replies.old })
-        (record { left = S.left commands.new; gained = K.gained replies.new }) [] left }
+        (record { left = S.left commands.new; gained = K.gained replies.new }) }
 
-    // A fault comes only where the count of its object rose.
+    // A fault is answered exactly where a call of its object failed.
+    ensures file_fault { result ≡ 8 → FaultCounted (F.faults files.old) (F.faults files.new) }
+    ensures files_unchanged { result ≢ 8 → F.faults files.new ≡ F.faults files.old }
     ensures read_fault { result ≡ 5 → FaultCounted (S.faults commands.old) (S.faults commands.new) }
     ensures reads_unchanged { result ≢ 5 → S.faults commands.new ≡ S.faults commands.old }
     ensures write_fault { result ≡ 6 → FaultCounted (K.faults replies.old) (K.faults replies.new) }
     ensures writes_unchanged { result ≢ 6 → K.faults replies.new ≡ K.faults replies.old }
 {
-    match form_of(words) {
-        None => USAGE,
-        Some(Form::Serve) => match open_and_serve(alloc, engine, commands, replies) {
-            Ok(ended) => exit_status(ended),
-            Err(_) => OUT_OF_MEMORY,
-        },
-    }
+    status_of(perform(alloc, words, files, commands, replies, engine))
 }

@@ -15,7 +15,7 @@ use std::test::Fail;
 fn ending(alloc: Global, bytes: &[u8], step: usize) -> Result<Ended, Fail>
     requires { 1 ≤ step }
 {
-    let mut module = Module::open(alloc, Shipped::new())?;
+    let mut module = Module::open(alloc, Shipped::new(), Vec::new(alloc), [0; 32])?;
     let mut noise = MemNoise::new(Vec::new(alloc));
     let mut frames = Frames::new(alloc)?;
     let mut reply = Reply::new(alloc)?;
@@ -88,12 +88,15 @@ fn answers_the_same_place_for_good(rt: HostRuntime) -> Result<(), Fail> {
 #[test]
 fn tells_each_fault(rt: HostRuntime) -> Result<(), Fail> {
     let rows = [
-        (2, "usage: serve"),
+        (2, "usage: serve or digest"),
         (3, "bad frame"),
         (4, "truncated frame"),
         (5, "read failed"),
         (6, "write failed"),
         (7, "out of memory"),
+        (8, "file failed"),
+        (9, "image too long"),
+        (11, "bad digest file"),
         (12, "stream too long"),
     ];
     for (status, text) in rows {
@@ -101,6 +104,8 @@ fn tells_each_fault(rt: HostRuntime) -> Result<(), Fail> {
         assert_eq!(rt; format!(in rt.alloc(); "{fault}")?.as_str(), text);
     }
     assert!(rt; RunFault::of(0).is_none());
+    assert!(rt; RunFault::of(1).is_none());
+    assert!(rt; RunFault::of(10).is_none());
     assert!(rt; RunFault::of(13).is_none());
     Ok(())
 }

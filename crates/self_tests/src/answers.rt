@@ -11,8 +11,8 @@ use drbg_core::Drbg;
 use engine_core::Engine;
 use gcm_mode::Prepared;
 
-// Whether two lists of bytes are equal.
-fn equal(made: &[u8], known: &[u8]) -> bool
+/// Whether two lists of bytes are equal.
+pub fn equal(made: &[u8], known: &[u8]) -> bool
     ensures { result ≡ bytes_eq made.now known.now }
 {
     same(made, known)

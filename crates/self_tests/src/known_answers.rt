@@ -1,7 +1,6 @@
 //! The tests.
 ghost use Rattle.std.specs.Prelude.{◌≡◌, ◌≤◌, length};
 ghost use Rattle.bits_core.specs.ByteList.{zeros};
-ghost use Rattle.self_tests.specs.Integrity.{image_outcome};
 ghost use Rattle.self_tests.specs.KnownAnswers.{answers_right, engine_after};
 
 use crate::Test;
@@ -11,9 +10,8 @@ use crate::answers::{
 use crate::table::{
     DERIVATION_CONTEXT, DERIVATION_KEY, DERIVATION_LABEL, DERIVED, DIGEST_256, DIGEST_384,
     DIGEST_512, ENTROPY, GCM_CIPHERTEXT, GCM_IV, GCM_KEY, GCM_OTHER_TAG, GCM_TAG, GCM_TEXT,
-    GENERATED, HASH_TEXT, IMAGE_KEY, MAC_256, MAC_384, MAC_512, MAC_KEY, MAC_TEXT, NONCE,
-    PADDED_WRAPPED_TEXT, PADDED_WRAPPING, PADDED_WRAPPING_KEY, RESEED_ENTROPY, WRAPPED_TEXT,
-    WRAPPING, WRAPPING_KEY,
+    GENERATED, HASH_TEXT, MAC_256, MAC_384, MAC_512, MAC_KEY, MAC_TEXT, NONCE, PADDED_WRAPPED_TEXT,
+    PADDED_WRAPPING, PADDED_WRAPPING_KEY, RESEED_ENTROPY, WRAPPED_TEXT, WRAPPING, WRAPPING_KEY,
 };
 use bits_core::Alg;
 use engine_core::Engine;
@@ -88,13 +86,4 @@ pub fn known_answer<E: Engine>(engine: &mut E, test: Test, work: &mut [u8]) -> b
             work,
         ),
     }
-}
-
-/// Whether an image is what it was when its digest was made (ISO/IEC 19790:2012, 7.10.2.2): its HMAC-SHA-256 under the image key, all
-/// 32 bytes of it. The image has any length.
-pub fn integrity<E: Engine>(engine: &mut E, image: &[u8], digest: &[u8; 32]) -> bool
-    ensures right { result ≡ (image_outcome E.calls engine.old image.now digest.now).right }
-    ensures engine { engine.new ≡ (image_outcome E.calls engine.old image.now digest.now).engine }
-{
-    is_mac(engine, Alg::Sha256, &IMAGE_KEY, image, digest)
 }

@@ -2,6 +2,7 @@
 #![tactic(auto)]
 
 mod answers;
+mod image;
 mod known_answers;
 mod numbers;
 mod table;
@@ -9,6 +10,7 @@ mod test_set;
 #[cfg(test)]
 mod tests;
 
-pub use known_answers::{integrity, known_answer};
+pub use image::{image_digest, integrity};
+pub use known_answers::known_answer;
 pub use numbers::Test;
 pub use test_set::Tested;
