@@ -6,7 +6,7 @@ use engine_core::Engine;
 
 /// The machine begins by its rules, and a step for any command keeps them, with any engine and noise.
 pub fn steps_keep_the_rules<E: Engine>()
-    ensures begins { (engine : E) → IsWellFormed (initial_state engine) }
+    ensures begins { (engine : E) (image digest : List ℕ) → IsWellFormed (initial_state engine image digest) }
     ensures keeps { StepsKeepTheRules E.calls }
 {}
 

@@ -11,6 +11,7 @@ use Rattle.state_model.specs.Step.{request_at}
 use Rattle.state_model.specs.Represents.{Represents}
 use Rattle.state_model.proofs.Order.{dispatch_unknown, dispatch_not_permitted, dispatch_requested, refused_leaves}
 use Rattle.state_model.proofs.Statuses.{perform_left, cryptographic_request, not_indicated}
+use Rattle.outside.proofs.Explanations.{explained_none, explained_by}
 use Rattle.state_model.proofs.module.Module.dispatch.Goals as goal
 
 -- the state of a module is the machine's
@@ -18,44 +19,44 @@ same_state : {V : Type 0} {kept m : ModuleView V} {s : MachineState V} → kept 
 same_state {V} {kept} {m} {s} seen represents = ap (λ (k : ModuleView V). k.public.state) seen ∙ ap (λ (t : MachineState V). state_of t) represents.same
 
 pub returns-in_default-clause-answer : goal.returns-in_default-clause-answer
-returns-in_default-clause-answer g c s events represents =
+returns-in_default-clause-answer g c = explained_none _ _ (λ events s represents.
     let unknown = rw c.service.ensures at (sym c.service_of.ensures ∙ c.in_default.is) in
     rw (dispatch_unknown g.E.Engine.calls s events c.args.command.now unknown, c.management_outcome.ensures)
-    (refused_leaves c.args.self.now s events _ c.args.block.now _ represents c.requires.block (ap (λ (contents : OutboxContents). contents.bytes) c.requires.payload), refl)
+    (refused_leaves c.args.self.now s events _ c.args.block.now _ represents c.requires.block (ap (λ (contents : OutboxContents). contents.bytes) c.requires.payload), refl))
 
 pub returns-then-not-permitted-clause-answer : goal.returns-then-not-permitted-clause-answer
-returns-then-not-permitted-clause-answer g c s events represents =
+returns-then-not-permitted-clause-answer g c = explained_none _ _ (λ events s represents.
     let known = rw c.service.ensures at (sym c.service_of.ensures ∙ c.in-Some.is) in
     let refusal = rw (same_state c.self.view_is represents) at (sym c.permitted.ensures ∙ c.if-not-permitted.true) in
     rw (dispatch_not_permitted g.E.Engine.calls s events c.args.command.now c.in-Some.service known refusal, c.management_outcome-then-not-permitted.ensures)
-    (refused_leaves c.args.self.now s events _ c.args.block.now _ represents c.requires.block (ap (λ (contents : OutboxContents). contents.bytes) c.requires.payload), refl)
+    (refused_leaves c.args.self.now s events _ c.args.block.now _ represents c.requires.block (ap (λ (contents : OutboxContents). contents.bytes) c.requires.payload), refl))
 
 pub returns-then-not-permitted-clause-approved : goal.returns-then-not-permitted-clause-approved
 returns-then-not-permitted-clause-approved g c = rw c.management_outcome-then-not-permitted.ensures
     (sym (not_indicated (request_at (service_numbered c.args.command.now.service) c.args.command.now.body) status.NotInState c.args.self.now.vault.slots refl))
 
 pub returns-in_default-read_request-clause-answer : goal.returns-in_default-read_request-clause-answer
-returns-in_default-read_request-clause-answer g c s events represents =
+returns-in_default-read_request-clause-answer g c = explained_none _ _ (λ events s represents.
     let known = rw c.service.ensures at (sym c.service_of.ensures ∙ c.in-Some.is) in
     let leave = rw (same_state c.self.view_is represents) at (sym c.permitted.ensures ∙ c.if-not-permitted.false) in
     let bad = rw c.body.ensures.body at (sym c.read_request.ensures.read ∙ ap (option_map request_value) c.in_default-read_request.is) in
     rw (dispatch_requested g.E.Engine.calls s events c.args.command.now c.in-Some.service known leave, bad, c.management_outcome-in_default-read_request.ensures)
-    (refused_leaves c.args.self.now s events _ c.args.block.now _ represents c.requires.block (ap (λ (contents : OutboxContents). contents.bytes) c.requires.payload), refl)
+    (refused_leaves c.args.self.now s events _ c.args.block.now _ represents c.requires.block (ap (λ (contents : OutboxContents). contents.bytes) c.requires.payload), refl))
 
 pub returns-then-is_cryptographic-clause-answer : goal.returns-then-is_cryptographic-clause-answer
-returns-then-is_cryptographic-clause-answer g c s events represents =
+returns-then-is_cryptographic-clause-answer g c = explained_none _ _ (λ events s represents.
     let known = rw c.service.ensures at (sym c.service_of.ensures ∙ c.in-Some.is) in
     let leave = rw (same_state c.self.view_is represents) at (sym c.permitted.ensures ∙ c.if-not-permitted.false) in
     let good = rw c.body.ensures.body at (sym c.read_request.ensures.read ∙ ap (option_map request_value) c.in-Some-read_request.is) in
     let what = cryptographic_request (request_value c.in-Some-read_request.request)
     (ap is_cryptographic c.in-Some-read_request.ensures.of_service ∙ sym c.is_cryptographic.ensures ∙ c.if-is_cryptographic.true) c.in-Some-read_request.ensures.in_range in
     rw (dispatch_requested g.E.Engine.calls s events c.args.command.now c.in-Some.service known leave, good, what.1, c.requires.block)
-    (c.run_cryptographic_service.ensures.answer s events what.0 represents what.1, refl)
+    (c.run_cryptographic_service.ensures.answer s events what.0 represents what.1, refl))
 
 pub returns-clause-answer : goal.returns-clause-answer
-returns-clause-answer g c s events represents =
+returns-clause-answer g c = explained_none _ _ (λ events s represents.
     let known = rw c.service.ensures at (sym c.service_of.ensures ∙ c.in-Some.is) in
     let leave = rw (same_state c.self.view_is represents) at (sym c.permitted.ensures ∙ c.if-not-permitted.false) in
     let good = rw c.body.ensures.body at (sym c.read_request.ensures.read ∙ ap (option_map request_value) c.in-Some-read_request.is) in
     rw (dispatch_requested g.E.Engine.calls s events c.args.command.now c.in-Some.service known leave, good, c.management_outcome-2.ensures, ap (λ (contents : OutboxContents). contents.bytes) c.requires.payload)
-    (c.run_management_service.ensures.answer s events represents, perform_left g.E.Engine.calls s events (request_value c.in-Some-read_request.request))
+    (c.run_management_service.ensures.answer s events represents, perform_left g.E.Engine.calls s events (request_value c.in-Some-read_request.request)))
