@@ -1,8 +1,8 @@
 #!/usr/bin/env python3
-"""Writes the expected values of module_program's service tests, computed by Python's hashlib and hmac.
+"""Writes the expected values of the service tests of program_rows, computed by Python's hashlib and hmac.
 
-    python3 checks/machine_rows.py > crates/module_program/src/service_rows.rt
-    (cd crates/module_program && rt fmt)
+    python3 checks/machine_rows.py > crates/program_rows/src/service_rows.rt
+    (cd crates/program_rows && rt fmt)
 
 An entry is the body that begins it, the bytes of its parameter, and the body that commits it: the check value, which is
 the leftmost 8 bytes of HMAC-SHA-256 over the first body under these bytes. A body of MacVerify has the MAC before the text.

@@ -1,9 +1,11 @@
 #!/usr/bin/env bash
-# Whether each table of expected values in the tests is what its script computes: see rows.py.
+# Whether each table of expected values in the tests, and the stored run of the program, are what their scripts compute: see rows.py
+# and stored_run.py.
 set -u
 cd "$(dirname "$0")/.." || exit 1
 if ! command -v python3 >/dev/null; then
     echo 'rows: skipped, since there is no python3'
     exit 0
 fi
+python3 checks/stored_run.py --check || exit 1
 exec python3 checks/rows.py

@@ -2,13 +2,13 @@
 #![tactic(auto)]
 
 #[cfg(test)]
-mod known_answer_tests;
+mod file_tests;
 #[cfg(test)]
-mod sequence_tests;
+mod noise_rows;
 #[cfg(test)]
-mod service_rows;
+mod noise_tests;
 #[cfg(test)]
-mod service_tests;
+mod runs;
 #[cfg(test)]
 mod tests;
 

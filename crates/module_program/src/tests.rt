@@ -1,72 +1,20 @@
 // Whole runs of the program: states, roles, entries and bodies.
-ghost use Rattle.std.specs.Prelude.{◌≤◌};
-
-use engine_core::{Engine, Shipped};
-use module_top::run;
-use outside::{MemSink, MemSource};
-use std::alloc::Global;
+use crate::runs::{
+    Dialogue, OFFICER, ONE_PASS, POWER_ON, REQUEST_TESTS, RESET, SHOW_STATUS, Shown, TEST_STEP,
+    TWO_PASSES, counting, outcome,
+};
 use std::test::Fail;
-
-fn words_of(alloc: Global, words: &[&str]) -> Result<Vec<String>, Fail> {
-    let mut all = Vec::new(alloc);
-    for word in words {
-        all.push(String::from_str(alloc, word)?)?;
-    }
-    Ok(all)
-}
-
-// Runs the program over these bytes, which come so many at a time.
-pub(crate) fn outcome(
-    alloc: Global,
-    words: &[&str],
-    bytes: &[u8],
-    step: usize,
-) -> Result<(u8, MemSink), Fail>
-    requires { 1 ≤ step }
-{
-    outcome_over(alloc, Shipped::new(), words, bytes, step)
-}
-
-// The same over an engine.
-pub(crate) fn outcome_over<E: Engine>(
-    alloc: Global,
-    engine: E,
-    words: &[&str],
-    bytes: &[u8],
-    step: usize,
-) -> Result<(u8, MemSink), Fail>
-    requires { 1 ≤ step }
-{
-    let words = words_of(alloc, words)?;
-    let mut commands = MemSource::new(bytes.to_vec(alloc)?, step, Vec::new(alloc));
-    let mut replies = MemSink::new(alloc, 4_000, 24, Vec::new(alloc))?;
-    let status = run(alloc, &words, &mut commands, &mut replies, engine);
-    Ok((status, replies))
-}
-
-// A command without a body, or with a body of one byte or four.
-const POWER_ON: &[u8] = &[0xc5, 0x01, 0x01, 0, 0, 0, 0, 4, 0, 0, 0, 0];
-
-const TEST_STEP: &[u8] = &[0xc5, 0x01, 0x02, 0, 0, 0, 0, 0];
-
-const REQUEST_TESTS: &[u8] = &[0xc5, 0x01, 0x03, 0, 0, 0, 0, 0];
-
-const SHOW_STATUS: &[u8] = &[0xc5, 0x01, 0x04, 0, 0, 0, 0, 0];
 
 const SHOW_VERSION: &[u8] = &[0xc5, 0x01, 0x05, 0, 0, 0, 0, 0];
 
 const NO_ROLE: &[u8] = &[0xc5, 0x01, 0x06, 0, 0, 0, 0, 1, 0];
 
-const OFFICER: &[u8] = &[0xc5, 0x01, 0x06, 0, 0, 0, 0, 1, 1];
-
 const USER: &[u8] = &[0xc5, 0x01, 0x06, 0, 0, 0, 0, 1, 2];
 
 const FOURTH_ROLE: &[u8] = &[0xc5, 0x01, 0x06, 0, 0, 0, 0, 1, 3];
 
-const RESET: &[u8] = &[0xc5, 0x01, 0x07, 0, 0, 0, 0, 0];
-
 // Each command, and of its reply the status, the state and the status block.
-const DIALOGUE: [(&[u8], u8, u8, [u8; 12]); 21] = [
+const DIALOGUE: [Shown; 21] = [
     (POWER_ON, 0, 1, [0; 12]),
     (TEST_STEP, 2, 1, [0; 12]),
     (OFFICER, 2, 1, [0; 12]),
@@ -91,31 +39,14 @@ const DIALOGUE: [(&[u8], u8, u8, [u8; 12]); 21] = [
     (TEST_STEP, 2, 1, [0; 12]),
 ];
 
-pub(crate) fn reply_to(command: &[u8], status: u8, state: u8, block: &[u8; 12]) -> [u8; 24] {
-    let mut reply = [0; 24];
-    reply[0] = 0x5c;
-    reply[1] = 0x01;
-    reply[2] = match command {
-        [_, _, service, ..] => *service,
-        _ => 0,
-    };
-    reply[3] = status;
-    reply[4] = state;
-    reply[8..20].copy_from_slice(block);
-    reply
-}
-
 #[test]
 fn goes_through_tests_and_roles(rt: HostRuntime) -> Result<(), Fail> {
-    let mut stream = Vec::new(rt.alloc());
-    let mut want = Vec::new(rt.alloc());
-    for (command, status, state, block) in DIALOGUE {
-        stream.extend_from_slice(command)?;
-        want.extend_from_slice(&reply_to(command, status, state, &block))?;
-    }
-    let (status, replies) = outcome(rt.alloc(), &["serve"], &stream, 11)?;
+    let mut dialogue = Dialogue::new(rt.alloc());
+    dialogue.show(&DIALOGUE, (0, 0))?;
+    let noise = counting(rt.alloc(), TWO_PASSES)?;
+    let (status, replies) = outcome(rt.alloc(), noise, &dialogue.stream, 11)?;
     assert_eq!(rt; status, 0);
-    assert_eq!(rt; replies.bytes(), want.as_slice());
+    assert_eq!(rt; replies.bytes(), dialogue.want.as_slice());
     Ok(())
 }
 
@@ -190,53 +121,13 @@ const ENTERING: [(&[u8], u8, u8); 30] = [
     (RESET, 0, 1),
 ];
 
-// A stream, and the replies to it.
-#[derive(Drop)]
-pub(crate) struct Dialogue {
-    pub(crate) stream: Vec<u8>,
-    pub(crate) want: Vec<u8>,
-}
-
-impl Dialogue {
-    pub(crate) fn new(alloc: Global) -> Dialogue {
-        Dialogue {
-            stream: Vec::new(alloc),
-            want: Vec::new(alloc),
-        }
-    }
-
-    fn add(&mut self, rows: &[(&[u8], u8, u8)]) -> Result<(), Fail> {
-        for (command, status, state) in rows {
-            self.stream.extend_from_slice(command)?;
-            self.want
-                .extend_from_slice(&reply_to(command, *status, *state, &[0; 12]))?;
-        }
-        Ok(())
-    }
-
-    // A command with a body of fewer than 256 bytes.
-    pub(crate) fn command(&mut self, service: u8, body: &[u8]) -> Result<(), Fail> {
-        let length = u8::try_from(body.len()).ok().ok_or("a short body")?;
-        self.stream
-            .extend_from_slice(&[0xc5, 0x01, service, 0, 0, 0, 0, length])?;
-        self.stream.extend_from_slice(body)?;
-        Ok(())
-    }
-
-    fn ask(&mut self, service: u8, body: &[u8], status: u8, state: u8) -> Result<(), Fail> {
-        self.command(service, body)?;
-        let reply = reply_to(&[0xc5, 0x01, service], status, state, &[0; 12]);
-        self.want.extend_from_slice(&reply)?;
-        Ok(())
-    }
-}
-
 #[test]
 fn enters_a_parameter_and_gives_it_up(rt: HostRuntime) -> Result<(), Fail> {
     let mut dialogue = Dialogue::new(rt.alloc());
     dialogue.add(&TO_OFFICER)?;
     dialogue.add(&ENTERING)?;
-    let (status, replies) = outcome(rt.alloc(), &["serve"], &dialogue.stream, 5)?;
+    let noise = counting(rt.alloc(), ONE_PASS)?;
+    let (status, replies) = outcome(rt.alloc(), noise, &dialogue.stream, 5)?;
     assert_eq!(rt; status, 0);
     assert_eq!(rt; replies.bytes(), dialogue.want.as_slice());
     Ok(())
@@ -277,7 +168,8 @@ fn begins_an_entry_that_has_the_form(rt: HostRuntime) -> Result<(), Fail> {
         let mut dialogue = Dialogue::new(rt.alloc());
         dialogue.add(&TO_OFFICER)?;
         dialogue.add(&[(&command, status, state)])?;
-        let (status, replies) = outcome(rt.alloc(), &["serve"], &dialogue.stream, 100)?;
+        let noise = counting(rt.alloc(), ONE_PASS)?;
+        let (status, replies) = outcome(rt.alloc(), noise, &dialogue.stream, 100)?;
         assert_eq!(rt; status, 0);
         assert_eq!(rt; replies.bytes(), dialogue.want.as_slice());
     }
@@ -336,7 +228,8 @@ fn refuses_each_broken_body(rt: HostRuntime) -> Result<(), Fail> {
     for (service, body, status, state) in BROKEN {
         dialogue.ask(service, body, status, state)?;
     }
-    let (status, replies) = outcome(rt.alloc(), &["serve"], &dialogue.stream, 7)?;
+    let noise = counting(rt.alloc(), ONE_PASS)?;
+    let (status, replies) = outcome(rt.alloc(), noise, &dialogue.stream, 7)?;
     assert_eq!(rt; status, 0);
     assert_eq!(rt; replies.bytes(), dialogue.want.as_slice());
     Ok(())

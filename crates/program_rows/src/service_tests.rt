@@ -1,6 +1,8 @@
 // Whole runs of the services that fill slots and use them: entries that are committed, digests and MACs.
-ghost use Rattle.std.specs.Prelude.{◌≤◌};
-
+use crate::runs::{
+    Dialogue, FIVE_PASSES, FOUR_PASSES, NO_BLOCK, NOTHING, ONE_PASS, Row, Told, outcome,
+    outcome_over, play, played,
+};
 use crate::service_rows::{
     CIPHER_BEGIN, CIPHER_BYTES, CIPHER_CHECK, FOURTEEN_BEGIN, FOURTEEN_BYTES, FOURTEEN_CHECK,
     HASH_256_ABC, HASH_256_ABC_TURNED, HASH_256_EMPTY, HASH_384_ABC, HASH_384_EMPTY, HASH_512_ABC,
@@ -9,57 +11,8 @@ use crate::service_rows::{
     VERIFY_256, VERIFY_256_FIRST_4, VERIFY_256_OTHER, VERIFY_256_TURNED, VERIFY_384,
     VERIFY_384_TURNED, VERIFY_512, VERIFY_512_TURNED, VERIFY_LASTING_4, VERIFY_LASTING_4_TURNED,
 };
-use crate::tests::{Dialogue, outcome, outcome_over, reply_to};
 use engine_core::Faulty;
-use outside::MemSink;
-use std::alloc::Global;
 use std::test::Fail;
-
-// What a reply tells beside its status and its state: the indicator, the status block and the payload.
-pub(crate) type Told<'a> = (u8, [u8; 12], &'a [u8]);
-
-// A service, a body, and of the reply the status, the state and what else it tells.
-pub(crate) type Row<'a> = (u8, &'a [u8], u8, u8, Told<'a>);
-
-pub(crate) const NO_BLOCK: [u8; 12] = [0; 12];
-
-pub(crate) const NOTHING: Told<'static> = (0, NO_BLOCK, &[]);
-
-pub(crate) fn play(dialogue: &mut Dialogue, rows: &[Row]) -> Result<(), Fail> {
-    play_with_code(dialogue, rows, (0, 0))
-}
-
-// Rows whose replies carry this error code.
-pub(crate) fn play_with_code(
-    dialogue: &mut Dialogue,
-    rows: &[Row],
-    code: (u8, u8),
-) -> Result<(), Fail> {
-    let (high, low) = code;
-    for (service, body, status, state, (indicator, block, payload)) in rows {
-        dialogue.command(*service, body)?;
-        let mut reply = reply_to(&[0xc5, 0x01, *service], *status, *state, block);
-        reply[5] = *indicator;
-        reply[6] = high;
-        reply[7] = low;
-        reply[23] = u8::try_from(payload.len()).ok().ok_or("a short payload")?;
-        dialogue.want.extend_from_slice(&reply)?;
-        dialogue.want.extend_from_slice(payload)?;
-    }
-    Ok(())
-}
-
-// Plays these parts, whose bytes come so many at a time: the exit status, the replies, and what they should be.
-fn played(alloc: Global, parts: &[&[Row]], step: usize) -> Result<(u8, MemSink, Vec<u8>), Fail>
-    requires { 1 ≤ step }
-{
-    let mut dialogue = Dialogue::new(alloc);
-    for rows in parts {
-        play(&mut dialogue, rows)?;
-    }
-    let (status, replies) = outcome(alloc, &["serve"], &dialogue.stream, step)?;
-    Ok((status, replies, dialogue.want))
-}
 
 pub(crate) const POWER_ON: Row<'static> = (0x01, &[0, 0, 0, 0], 0, 1, NOTHING);
 
@@ -110,7 +63,7 @@ const HASHES: [Row<'static>; 16] = [
 #[test]
 fn makes_digests(rt: HostRuntime) -> Result<(), Fail> {
     for step in [1, 65_536] {
-        let (status, replies, want) = played(rt.alloc(), &[&UP, &HASHES], step)?;
+        let (status, replies, want) = played(rt.alloc(), ONE_PASS, &[&UP, &HASHES], step)?;
         assert_eq!(rt; status, 0);
         assert_eq!(rt; replies.bytes(), want.as_slice());
     }
@@ -129,6 +82,14 @@ const HASH_REPLY: [u8; 56] = [
     0xb4, 0x10, 0xff, 0x61, 0xf2, 0x00, 0x15, 0xad,
 ];
 
+// Then the tests 1, 4 and 14 passed.
+const SHOW_COMMAND: [u8; 8] = [0xc5, 0x01, 0x04, 0x00, 0x00, 0x00, 0x00, 0x00];
+
+const SHOW_REPLY: [u8; 24] = [
+    0x5c, 0x01, 0x04, 0x00, 0x05, 0x00, 0x00, 0x00, 0x00, 0x00, 0x40, 0x12, 0x00, 0x00, 0x00, 0x00,
+    0x00, 0x00, 0x00, 0x00, 0x00, 0x00, 0x00, 0x00,
+];
+
 #[test]
 fn writes_a_digest_behind_the_header(rt: HostRuntime) -> Result<(), Fail> {
     for step in [1, 65_536] {
@@ -137,7 +98,9 @@ fn writes_a_digest_behind_the_header(rt: HostRuntime) -> Result<(), Fail> {
         play(&mut dialogue, &[USER])?;
         dialogue.stream.extend_from_slice(&HASH_COMMAND)?;
         dialogue.want.extend_from_slice(&HASH_REPLY)?;
-        let (status, replies) = outcome(rt.alloc(), &["serve"], &dialogue.stream, step)?;
+        dialogue.stream.extend_from_slice(&SHOW_COMMAND)?;
+        dialogue.want.extend_from_slice(&SHOW_REPLY)?;
+        let (status, replies) = outcome(rt.alloc(), ONE_PASS, &dialogue.stream, step)?;
         assert_eq!(rt; status, 0);
         assert_eq!(rt; replies.bytes(), dialogue.want.as_slice());
     }
@@ -243,7 +206,7 @@ const TOO_SHORT: Row<'static> = (0x08, &[3, 3, 1, 0, 0, 0, 0, 100, 4], 3, 4, NOT
 fn makes_and_checks_macs(rt: HostRuntime) -> Result<(), Fail> {
     let parts: [&[Row]; 4] = [&UP, &[OFFICER, TOO_SHORT], &ENTER_JEFE, &MACS];
     for step in [1, 65_536] {
-        let (status, replies, want) = played(rt.alloc(), &parts, step)?;
+        let (status, replies, want) = played(rt.alloc(), ONE_PASS, &parts, step)?;
         assert_eq!(rt; status, 0);
         assert_eq!(rt; replies.bytes(), want.as_slice());
     }
@@ -278,7 +241,7 @@ const BROKEN: [Row<'static>; 21] = [
 #[test]
 fn spends_no_use_for_a_broken_body(rt: HostRuntime) -> Result<(), Fail> {
     let parts: [&[Row]; 4] = [&UP, &[OFFICER], &ENTER_JEFE, &BROKEN];
-    let (status, replies, want) = played(rt.alloc(), &parts, 11)?;
+    let (status, replies, want) = played(rt.alloc(), ONE_PASS, &parts, 11)?;
     assert_eq!(rt; status, 0);
     assert_eq!(rt; replies.bytes(), want.as_slice());
     Ok(())
@@ -312,7 +275,7 @@ fn spends_the_last_use(rt: HostRuntime) -> Result<(), Fail> {
         &ENTER_ONCE,
         &ONCE_CHECKED,
     ];
-    let (status, replies, want) = played(rt.alloc(), &parts, 7)?;
+    let (status, replies, want) = played(rt.alloc(), ONE_PASS, &parts, 7)?;
     assert_eq!(rt; status, 0);
     assert_eq!(rt; replies.bytes(), want.as_slice());
     Ok(())
@@ -338,7 +301,7 @@ const APPROVED: [Row<'static>; 13] = [
 #[test]
 fn keeps_an_approved_key_to_its_domain(rt: HostRuntime) -> Result<(), Fail> {
     let parts: [&[Row]; 5] = [&UP, &[OFFICER], &ENTER_FOURTEEN, &ENTER_LASTING, &APPROVED];
-    let (status, replies, want) = played(rt.alloc(), &parts, 7)?;
+    let (status, replies, want) = played(rt.alloc(), ONE_PASS, &parts, 7)?;
     assert_eq!(rt; status, 0);
     assert_eq!(rt; replies.bytes(), want.as_slice());
     Ok(())
@@ -413,7 +376,7 @@ const OCCUPIED: [Row<'static>; 11] = [
 #[test]
 fn commits_an_entry_that_is_right(rt: HostRuntime) -> Result<(), Fail> {
     let parts: [&[Row]; 5] = [&UP, &[OFFICER], &NOT_COMMITTED, &COMMITTED, &OCCUPIED];
-    let (status, replies, want) = played(rt.alloc(), &parts, 1)?;
+    let (status, replies, want) = played(rt.alloc(), ONE_PASS, &parts, 1)?;
     assert_eq!(rt; status, 0);
     assert_eq!(rt; replies.bytes(), want.as_slice());
     Ok(())
@@ -520,7 +483,7 @@ fn asks_for_tests_after_a_period(rt: HostRuntime) -> Result<(), Fail> {
         &EACH_COUNTS,
         &COUNTS_END,
     ];
-    let (status, replies, want) = played(rt.alloc(), &parts, 1)?;
+    let (status, replies, want) = played(rt.alloc(), FIVE_PASSES, &parts, 1)?;
     assert_eq!(rt; status, 0);
     assert_eq!(rt; replies.bytes(), want.as_slice());
     Ok(())
@@ -598,7 +561,7 @@ fn empties_slots(rt: HostRuntime) -> Result<(), Fail> {
         &ALL_EMPTIED,
         &ALL_SHOWN,
     ];
-    let (status, replies, want) = played(rt.alloc(), &parts, 7)?;
+    let (status, replies, want) = played(rt.alloc(), ONE_PASS, &parts, 7)?;
     assert_eq!(rt; status, 0);
     assert_eq!(rt; replies.bytes(), want.as_slice());
     Ok(())
@@ -626,7 +589,7 @@ fn keeps_nothing_through_a_reset(rt: HostRuntime) -> Result<(), Fail> {
     fill(&mut dialogue)?;
     play(&mut dialogue, &[(0x03, &[], 0, 2, NOTHING), RESET])?;
     play(&mut dialogue, &AFTER_RESET)?;
-    let (status, replies) = outcome(rt.alloc(), &["serve"], &dialogue.stream, 7)?;
+    let (status, replies) = outcome(rt.alloc(), FOUR_PASSES, &dialogue.stream, 7)?;
     assert_eq!(rt; status, 0);
     assert_eq!(rt; replies.bytes(), dialogue.want.as_slice());
     Ok(())
@@ -639,7 +602,7 @@ const WRONG_DIGESTS: [Row<'static>; 3] = [
     (0x10, b"\x01abc", 0, 5, (1, NO_BLOCK, &HASH_256_ABC_TURNED)),
 ];
 
-// MACs that are wrong once the known answer was right.
+// MACs that are wrong once the known answer and the image's were right.
 const WRONG_MACS: [Row<'static>; 5] = [
     OFFICER,
     JEFE_BEGUN,
@@ -648,16 +611,20 @@ const WRONG_MACS: [Row<'static>; 5] = [
     (0x0e, &[3], 0, 4, NOTHING),
 ];
 
+// No service makes the call that is wrong from the beginning.
+const UNCHANGED: [Row<'static>; 2] = [USER, (0x10, b"\x01abc", 0, 5, (1, NO_BLOCK, &HASH_256_ABC))];
+
 #[test]
 fn hands_on_what_an_engine_answers(rt: HostRuntime) -> Result<(), Fail> {
     for (engine, rows) in [
         (Faulty::new(0, 2, 0), WRONG_DIGESTS.as_slice()),
-        (Faulty::new(1, 1, 7), WRONG_MACS.as_slice()),
+        (Faulty::new(1, 2, 7), WRONG_MACS.as_slice()),
+        (Faulty::new(2, 0, 0), UNCHANGED.as_slice()),
     ] {
         let mut dialogue = Dialogue::new(rt.alloc());
         play(&mut dialogue, &UP)?;
         play(&mut dialogue, rows)?;
-        let (status, replies) = outcome_over(rt.alloc(), engine, &["serve"], &dialogue.stream, 9)?;
+        let (status, replies) = outcome_over(rt.alloc(), engine, ONE_PASS, &dialogue.stream, 9)?;
         assert_eq!(rt; status, 0);
         assert_eq!(rt; replies.bytes(), dialogue.want.as_slice());
     }

@@ -1,9 +1,9 @@
 // Runs over engines whose known answers are wrong, or are wrong later.
-use crate::service_rows::{HASH_256_ABC, HASH_256_ABC_TURNED};
-use crate::service_tests::{
-    NO_BLOCK, NOTHING, POWER_ON, REQUEST_TESTS, RESET, Row, TESTED, UP, USER, play, play_with_code,
+use crate::runs::{
+    Dialogue, NO_BLOCK, NOTHING, ONE_PASS, Row, TWO_PASSES, outcome_over, play, play_with_code,
 };
-use crate::tests::{Dialogue, outcome_over};
+use crate::service_rows::{HASH_256_ABC, HASH_256_ABC_TURNED};
+use crate::service_tests::{POWER_ON, REQUEST_TESTS, RESET, TESTED, UP, USER};
 use engine_core::Faulty;
 use std::test::Fail;
 
@@ -74,7 +74,8 @@ fn fail(
 
 const TWO_STEPS: [Row<'static>; 3] = [REQUEST_TESTS, TESTED, TESTED];
 
-// A generator's test makes three calls, numbers 7 to 9 of an engine. After Reset, tests that are asked for fail again.
+// A generator's test makes three calls, numbers 7 to 9 of an engine. Where it fails no noise is taken. After Reset, tests that are
+// asked for fail again.
 #[test]
 fn fails_a_test_that_is_due(rt: HostRuntime) -> Result<(), Fail> {
     for (engine, before, code, shown) in [
@@ -107,10 +108,31 @@ fn fails_a_test_that_is_due(rt: HostRuntime) -> Result<(), Fail> {
         play(&mut dialogue, &[POWER_ON])?;
         fail(&mut dialogue, before, STEP_FAILS, code, shown)?;
         fail(&mut dialogue, before, STEP_FAILS, code, shown)?;
-        let (status, replies) = outcome_over(rt.alloc(), engine, &["serve"], &dialogue.stream, 9)?;
+        let (status, replies) = outcome_over(rt.alloc(), engine, 0, &dialogue.stream, 9)?;
         assert_eq!(rt; status, 0);
         assert_eq!(rt; replies.bytes(), dialogue.want.as_slice());
     }
+    Ok(())
+}
+
+// The image is tested with the engine's HMAC, which fails its own test the next time.
+#[test]
+fn fails_the_image_by_its_engine(rt: HostRuntime) -> Result<(), Fail> {
+    let before = [REQUEST_TESTS, TESTED];
+    let mut dialogue = Dialogue::new(rt.alloc());
+    play(&mut dialogue, &[POWER_ON])?;
+    fail(&mut dialogue, &before, STEP_FAILS, (2, 0), MAC_PASSED)?;
+    fail(
+        &mut dialogue,
+        &[REQUEST_TESTS],
+        STEP_FAILS,
+        (1, 4),
+        NONE_PASSED,
+    )?;
+    let engine = Faulty::new(1, 1, 3);
+    let (status, replies) = outcome_over(rt.alloc(), engine, 0, &dialogue.stream, 7)?;
+    assert_eq!(rt; status, 0);
+    assert_eq!(rt; replies.bytes(), dialogue.want.as_slice());
     Ok(())
 }
 
@@ -136,7 +158,7 @@ fn fails_a_first_use(rt: HostRuntime) -> Result<(), Fail> {
     let mut dialogue = Dialogue::new(rt.alloc());
     fail(&mut dialogue, &UP_1, HASH_FAILS, (1, 1), ONE_COUNTED)?;
     let engine = Faulty::new(0, 0, 0);
-    let (status, replies) = outcome_over(rt.alloc(), engine, &["serve"], &dialogue.stream, 7)?;
+    let (status, replies) = outcome_over(rt.alloc(), engine, ONE_PASS, &dialogue.stream, 7)?;
     assert_eq!(rt; status, 0);
     assert_eq!(rt; replies.bytes(), dialogue.want.as_slice());
     Ok(())
@@ -151,7 +173,7 @@ fn tests_each_algorithm_once(rt: HostRuntime) -> Result<(), Fail> {
     let back = [REQUEST_TESTS, TESTED, TESTED, (0x02, &[], 0, 5, NOTHING)];
     fail(&mut dialogue, &back, HASH_FAILS, (1, 1), BOTH_PASSED)?;
     let engine = Faulty::new(0, 3, 0);
-    let (status, replies) = outcome_over(rt.alloc(), engine, &["serve"], &dialogue.stream, 7)?;
+    let (status, replies) = outcome_over(rt.alloc(), engine, TWO_PASSES, &dialogue.stream, 7)?;
     assert_eq!(rt; status, 0);
     assert_eq!(rt; replies.bytes(), dialogue.want.as_slice());
     Ok(())
@@ -196,14 +218,14 @@ fn tests_another_algorithm_at_its_own_first_use(rt: HostRuntime) -> Result<(), F
             HASH_PASSED,
         ),
         (
-            Faulty::new(1, 1, 0),
+            Faulty::new(1, 2, 0),
             [].as_slice(),
             HMAC_384,
             (1, 5),
             BOTH_PASSED,
         ),
         (
-            Faulty::new(1, 1, 0),
+            Faulty::new(1, 2, 0),
             [].as_slice(),
             HMAC_512,
             (1, 6),
@@ -214,7 +236,7 @@ fn tests_another_algorithm_at_its_own_first_use(rt: HostRuntime) -> Result<(), F
         play(&mut dialogue, &UP)?;
         play(&mut dialogue, &EMPTY_SLOT)?;
         fail(&mut dialogue, before, failing, code, shown)?;
-        let (status, replies) = outcome_over(rt.alloc(), engine, &["serve"], &dialogue.stream, 7)?;
+        let (status, replies) = outcome_over(rt.alloc(), engine, ONE_PASS, &dialogue.stream, 7)?;
         assert_eq!(rt; status, 0);
         assert_eq!(rt; replies.bytes(), dialogue.want.as_slice());
     }

@@ -1,5 +1,5 @@
 // Numbered commands, in streams with commands of version 1 between them.
-use crate::tests::outcome;
+use crate::runs::outcome;
 use std::test::Fail;
 
 // Each command, and its reply.
@@ -95,7 +95,7 @@ fn numbered_commands_are_answered_in_their_order(rt: HostRuntime) -> Result<(), 
         want.extend_from_slice(reply)?;
     }
     for step in [1, 7, 65_536] {
-        let (status, replies) = outcome(rt.alloc(), &["serve"], &stream, step)?;
+        let (status, replies) = outcome(rt.alloc(), 0, &stream, step)?;
         assert_eq!(rt; status, 0);
         assert_eq!(rt; replies.bytes(), want.as_slice());
     }
