@@ -23,7 +23,7 @@ use Rattle.crypto_services.specs.Services.{is_leftmost, verified}
 use Rattle.state_model.specs.Permission.{IsPermittedIn}
 use Rattle.state_model.specs.Entries.{with_piece, entry_length}
 use Rattle.state_model.specs.MachineState.{MachineState, state_of}
-use Rattle.state_model.specs.Management.{Stepped, refused, done, with_public, with_tested, after_test, test_step}
+use Rattle.state_model.specs.Management.{Stepped, refused, done, with_public, test_step}
 use Rattle.state_model.specs.SelfTesting.{Tested, test_for, due_at_first_use}
 use Rattle.state_model.specs.Cryptographic.{service_at, ready_after, served, cryptographic_step}
 use Rattle.state_model.specs.Step.{dispatch, dispatch_request, perform}

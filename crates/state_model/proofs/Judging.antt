@@ -1,5 +1,5 @@
 -- A module whose engine was tested, and the machine that it represents.
-use Rattle.std.proofs.Common.{◌≡◌, ◌≢◌, ℕ, List, [], Bool, true, Option, Some, None, refl, sym, subst, if◌then◌else◌}
+use Rattle.std.proofs.Common.{◌≡◌, ◌≢◌, ℕ, List, [], true, Option, Some, None, refl, sym, subst, if◌then◌else◌}
 use Rattle.std.specs.Prelude.{nat_lt, not}
 use Rattle.drbg_core.specs.declared.generator.Drbg.{Drbg}
 use Rattle.noise_health.specs.declared.health.Health.{Health}
@@ -27,7 +27,7 @@ use Rattle.state_model.specs.declared.self_testing.Judgement.{Judgement}
 use Rattle.state_model.specs.Management.{Stepped, after_test, with_seeded, test_step}
 use Rattle.state_model.specs.SelfTesting.{Tested, tested, step_tested, stepped_with, is_seed_due, seeded_when, noise_judgement, IsSeeded}
 use Rattle.state_model.specs.Cryptographic.{service_at, ready_after, served}
-use Rattle.state_model.specs.Represents.{machine_of, Represents, IsServiceResult}
+use Rattle.state_model.specs.Represents.{machine_of, IsServiceResult}
 use Rattle.state_model.proofs.Testing.{tested_by, step_tested_by}
 use Rattle.state_model.proofs.PublicRules.{failed_is_not_over}
 use Rattle.state_model.proofs.TestSteps.{seeded_step, test_step_kept}

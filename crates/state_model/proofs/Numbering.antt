@@ -17,7 +17,7 @@ use Rattle.module_frames.specs.Requests as request
 use Rattle.engine_core.specs.Calls.{Calls}
 use Rattle.state_model.specs.Entries.{with_piece, entry_length}
 use Rattle.state_model.specs.MachineState.{MachineState, Shared, state_of}
-use Rattle.state_model.specs.Management.{Stepped, refused, done, with_public, tests_forgotten, with_tested, after_test, test_step}
+use Rattle.state_model.specs.Management.{Stepped, refused, done, with_public, tests_forgotten, test_step}
 use Rattle.state_model.specs.SelfTesting.{Tested, test_for, due_at_first_use}
 use Rattle.state_model.specs.Cryptographic.{service_at, ready_after, served, cryptographic_step}
 use Rattle.state_model.specs.Step.{dispatch, dispatch_request, perform, is_in_order, number_taken}

@@ -1,6 +1,6 @@
 -- What each service does keeps the rules.
 use Rattle.std.proofs.Common.{◌≡◌, ◌≢◌, ◌≤◌, ◌<◌, ◌^◌, ◌+◌, ℕ, zero, suc, List, [], Bool, true, false, Option, Some, None, length, refl, subst, arith, if◌then◌else◌}
-use Rattle.std.specs.Prelude.{◌==◌, not, nat_le, nat_lt, IsTrue, IfSome, bytes_eq}
+use Rattle.std.specs.Prelude.{◌==◌, not, nat_le, IsTrue, IfSome, bytes_eq}
 use Rattle.std.proofs.lemmas.Bool.Decides.{nat_tests}
 use Rattle.bits_core.specs.ByteList.{IsBytes}
 use Rattle.bits_core.specs.Parameters.{length_fits}
@@ -15,18 +15,14 @@ use Rattle.outside.specs.declared.traits.Sample.{Sample}
 use Rattle.module_frames.specs.declared.public_state.PublicState.{PublicState}
 use Rattle.module_frames.specs.PublicState.{no_block}
 use Rattle.module_frames.specs.PublicEffects.{sequence_taken, use_counted, is_period_over, sent_to_tests, has_failed, role_state}
-use Rattle.service_table.specs.declared.failure.Failure.{Failure}
 use Rattle.service_table.specs.declared.failure.Failure.TheVariants as failure
 use Rattle.self_tests.specs.declared.numbers.Test.{Test}
-use Rattle.self_tests.specs.declared.numbers.Test.TheVariants as test
 use Rattle.self_tests.specs.Tests.{number_of}
-use Rattle.self_tests.specs.TestSet.{has_test}
-use Rattle.state_model.specs.SelfTesting.{Tested}
-use Rattle.state_model.proofs.Testing.{Includes, step_tested_by, is_failure, passed_more, passed_in_use, use_of_passed, none_done}
+use Rattle.state_model.proofs.Testing.{Includes, is_failure, passed_more, passed_in_use, use_of_passed, none_done}
 use Rattle.ssp_slots.specs.declared.slot.Slot.{Slot}
 use Rattle.ssp_slots.specs.declared.slot_fault.SlotFault.{SlotFault}
 use Rattle.ssp_slots.specs.Refusals.{source_fault, vacancy_fault}
-use Rattle.ssp_slots.specs.Slots.{Contents, empty_slot, spent_slot, filled_slot, IsWellFormed, AreWellFormed, slot_in, zeroised_in, zeroised_all}
+use Rattle.ssp_slots.specs.Slots.{Contents, AreWellFormed, slot_in, zeroised_in, zeroised_all}
 use Rattle.ssp_slots.specs.Slots.{IsWellFormed as IsWellFormedSlot}
 use Rattle.ssp_slots.proofs.WellFormedSlots.{AreWellFormed-with_slot, AreWellFormed-zeroised, AreWellFormed-empty, IsWellFormed-spent, IsWellFormed-filled}
 use Rattle.engine_core.specs.Calls.{Calls}
@@ -34,12 +30,12 @@ use Rattle.crypto_services.specs.AtSlots.{Answer, SlotResult, slot_at, on_slot, 
 use Rattle.state_model.specs.declared.entry.Target.{Target}
 use Rattle.state_model.specs.Entries.{with_piece, entry_length, IsEntered}
 use Rattle.state_model.specs.Commit.{commit_at, unless, entered, after_check, check_value}
-use Rattle.state_model.specs.MachineState.{MachineState, Shared, IsReturn, IsPublicState, HavePassed, ArePassed, AreHealthy, IsFailure, state_of, vault_of, with_vault}
+use Rattle.state_model.specs.MachineState.{MachineState, Shared, IsReturn, IsPublicState, HavePassed, ArePassed, AreHealthy, state_of, vault_of, with_vault}
 use Rattle.state_model.specs.MachineState.{IsWellFormed as IsMachine}
-use Rattle.state_model.specs.Management.{refused, done, with_public, with_tested, after_test, power_on, request_tests, test_step, select_role, reset, entry_begin, entry_bytes, entry_over, entry_commit, committed, with_slots, zeroise, zeroise_all}
+use Rattle.state_model.specs.Management.{refused, done, with_public, power_on, request_tests, select_role, reset, entry_begin, entry_bytes, entry_over, entry_commit, committed, with_slots, zeroise, zeroise_all}
 use Rattle.state_model.specs.Cryptographic.{after_slots}
 use Rattle.state_model.proofs.Permitted.{not_entering_for_request_tests, not_failed_for_request_tests, return_for_select_role, return_is_not_entry, return_is_faultless, return_for_hash}
-use Rattle.state_model.proofs.PublicRules.{sequence_taken_kept, powered_on_kept, tests_requested_kept, test_done_by, failed_kept, failed_use_kept, failed_is_not_over, role_selected_kept, role_is_of_use, was_reset_kept, entry_begun_kept, entry_ended_kept, used_kept}
+use Rattle.state_model.proofs.PublicRules.{sequence_taken_kept, powered_on_kept, tests_requested_kept, failed_use_kept, failed_is_not_over, role_selected_kept, role_is_of_use, was_reset_kept, entry_begun_kept, entry_ended_kept, used_kept}
 use Rattle.state_model.proofs.EntryRules.{underway_begun, underway_with_piece, underway_target}
 
 -- another public state, from a state in which nothing failed and nothing is entered to such a one
@@ -72,7 +68,7 @@ select_role_kept s role rules allowed =
     let use' = return_for_select_role (state_of s) allowed in
     quiet_kept s _ s.shared.tests_passed rules (role_selected_kept s.shared.public role rules.public use')
     (use_of_passed (role_state role) s.shared.public.tests_done s.shared.tests_passed s.shared.generator (role_is_of_use role)
-        (passed_in_use (state_of s) s.shared.public.tests_done s.shared.tests_passed s.shared.generator use' rules.passed)) (return_is_faultless (state_of s) use')
+    (passed_in_use (state_of s) s.shared.public.tests_done s.shared.tests_passed s.shared.generator use' rules.passed)) (return_is_faultless (state_of s) use')
     (return_is_not_entry (state_of s) use') (return_is_not_entry _ (role_is_of_use role))
 
 -- no sample shows no fault

@@ -1,5 +1,5 @@
 -- What a seed leaves, by the noise.
-use Rattle.std.proofs.Common.{◌≡◌, ◌++◌, ◌∷◌, ℕ, zero, suc, List, [], Bool, true, false, Option, Some, None, Ok, Err, refl, ap}
+use Rattle.std.proofs.Common.{◌≡◌, ◌++◌, ◌∷◌, ℕ, zero, suc, List, [], Bool, true, false, Option, Some, None, Ok, Err, refl}
 use Rattle.std.specs.Prelude.{IfSome}
 use Rattle.drbg_core.specs.declared.generator.Drbg.{Drbg}
 use Rattle.noise_health.specs.declared.health.Health.{Health}

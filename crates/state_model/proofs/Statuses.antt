@@ -5,7 +5,6 @@ use Rattle.service_table.specs.declared.service.Service.{Service}
 use Rattle.service_table.specs.declared.service.Service.TheVariants as service
 use Rattle.service_table.specs.declared.status.Status.{Status}
 use Rattle.service_table.specs.declared.status.Status.TheVariants as status
-use Rattle.service_table.specs.Numbers.{service_numbered}
 use Rattle.service_table.specs.Services.{is_permitted, is_cryptographic, is_approved}
 use Rattle.bits_core.specs.declared.parameter.Kind.TheVariants as kind
 use Rattle.ssp_slots.specs.declared.slot.Slot.{Slot}
@@ -13,9 +12,8 @@ use Rattle.ssp_slots.specs.declared.slot_fault.SlotFault.{SlotFault}
 use Rattle.ssp_slots.specs.declared.slot_fault.SlotFault.TheVariants as fault
 use Rattle.ssp_slots.specs.Refusals.{source_fault, vacancy_fault}
 use Rattle.outside.specs.declared.traits.Sample.{Sample}
-use Rattle.module_frames.specs.CommandFrames.{CommandFrame}
 use Rattle.module_frames.specs.PublicState.{no_block}
-use Rattle.module_frames.specs.PublicEffects.{sequence_taken, use_counted}
+use Rattle.module_frames.specs.PublicEffects.{use_counted}
 use Rattle.module_frames.specs.Requests.{RequestValue, CryptographicRequest, service_for, request_of, IsInRange, IsCryptographicInRange}
 use Rattle.module_frames.specs.Requests as request
 use Rattle.engine_core.specs.Calls.{Calls}
@@ -26,11 +24,10 @@ use Rattle.state_model.specs.declared.entry.Target.{Target}
 use Rattle.state_model.specs.Commit.{unless, check_value, entered}
 use Rattle.state_model.specs.Entries.{with_piece, entry_length}
 use Rattle.state_model.specs.MachineState.{MachineState, state_of}
-use Rattle.state_model.specs.Management.{Stepped, refused, done, committed, with_public, with_tested, after_test, test_step}
+use Rattle.state_model.specs.Management.{Stepped, refused, done, committed, test_step}
 use Rattle.state_model.specs.SelfTesting.{Tested, test_for, due_at_first_use}
 use Rattle.state_model.specs.Cryptographic.{service_at, ready_after, served, cryptographic_step}
-use Rattle.state_model.specs.Step.{step, dispatch, dispatch_request, perform, indicated}
-use Rattle.state_model.proofs.Sequences.{by_order}
+use Rattle.state_model.specs.Step.{dispatch, dispatch_request, perform, indicated}
 use Rattle.state_model.proofs.Testing.{tested_by}
 use Rattle.state_model.proofs.TestSteps.{test_step_by}
 

@@ -1,5 +1,5 @@
 -- What zeroising leaves, and what refusals leave as it was.
-use Rattle.std.proofs.Common.{◌≡◌, ◌≢◌, ◌⊎◌, ℕ, ◌+◌, List, [], take, Bool, true, false, Option, Some, None, length, replicate, inl, inr, refl, sym, ap, subst, ◌∙◌, arith, if◌then◌else◌}
+use Rattle.std.proofs.Common.{◌≡◌, ◌≢◌, ◌⊎◌, ℕ, ◌+◌, List, [], take, Bool, true, false, Option, Some, None, length, inl, inr, refl, sym, ap, subst, ◌∙◌, if◌then◌else◌}
 use Rattle.std.specs.Prelude.{◌==◌, not, nat_le, bytes_eq, slice_index_or, slice_set}
 use Rattle.std.proofs.lemmas.Bool.{cases_lt}
 use Rattle.std.proofs.lemmas.List.{get_or-replicate, get_or_past, get_or-set_same, get_or-set_other, set_past}
@@ -29,7 +29,7 @@ use Rattle.state_model.specs.declared.entry.Target.{Target}
 use Rattle.state_model.specs.Commit.{unless, commit_at, check_value, entered}
 use Rattle.state_model.specs.Entries.{with_piece, entry_length}
 use Rattle.state_model.specs.MachineState.{MachineState, state_of, vault_of, no_slots}
-use Rattle.state_model.specs.Management.{Stepped, refused, done, committed, zeroise, with_public, with_tested, after_test, test_step}
+use Rattle.state_model.specs.Management.{Stepped, refused, done, committed, with_public, test_step}
 use Rattle.state_model.specs.SelfTesting.{Tested, test_for, due_at_first_use}
 use Rattle.state_model.specs.Cryptographic.{service_at, ready_after, served, cryptographic_step}
 use Rattle.state_model.specs.Step.{dispatch, dispatch_request, perform, request_at, number_taken}

@@ -13,7 +13,6 @@ use Rattle.outside.specs.declared.traits.Sample.{Sample}
 use Rattle.engine_core.specs.Calls.{Calls}
 use Rattle.random_bits.specs.Draws.{Drawn}
 use Rattle.crypto_services.specs.AtSlots.{SlotsResult, on_slot, on_no_slot, refusal}
-use Rattle.state_model.specs.declared.entry.Entry.{Entry}
 use Rattle.state_model.specs.declared.entry.Target.{Target}
 use Rattle.state_model.specs.Entries.{no_entry, begun_entry, with_piece, entry_length}
 use Rattle.state_model.specs.Commit.{commit_at, entered}

@@ -1,7 +1,7 @@
-use Rattle.std.proofs.Common.{[], sym, subst, ap, ◌∙◌}
+use Rattle.std.proofs.Common.{sym, subst, ap, ◌∙◌}
 use Rattle.outside.proofs.Explanations.{explained_by}
 use Rattle.state_model.specs.ModuleView.{ModuleView}
-use Rattle.state_model.specs.Represents.{Represents, IsRepresented}
+use Rattle.state_model.specs.Represents.{IsRepresented}
 use Rattle.state_model.specs.Step.{step}
 use Rattle.state_model.proofs.Replying.{replied}
 use Rattle.state_model.proofs.module.Module.command.Goals as goal

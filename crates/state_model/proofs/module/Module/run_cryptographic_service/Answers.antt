@@ -1,4 +1,4 @@
-use Rattle.std.proofs.Common.{◌≡◌, ◌∙◌, [], Some, None, refl, subst, sym, ap}
+use Rattle.std.proofs.Common.{◌≡◌, ◌∙◌, [], refl, subst, sym, ap}
 use Rattle.bits_core.specs.OutboxContents.{OutboxContents}
 use Rattle.module_frames.specs.PublicState.{no_block}
 use Rattle.module_frames.specs.Requests.{RequestValue, CryptographicRequest, Cryptographic, IsCryptographicInRange}
@@ -8,7 +8,7 @@ use Rattle.state_model.specs.SelfTesting.{test_for, due_at_first_use}
 use Rattle.state_model.specs.ModuleView.{ModuleView}
 use Rattle.state_model.specs.ModuleInvariant.{view_of}
 use Rattle.state_model.specs.MachineState.{MachineState}
-use Rattle.state_model.specs.Cryptographic.{service_at, cryptographic_step}
+use Rattle.state_model.specs.Cryptographic.{cryptographic_step}
 use Rattle.state_model.specs.Represents.{Represents, IsServiceResult, machine_of}
 use Rattle.state_model.proofs.Permitted.{return_for_hash, return_is_faultless}
 use Rattle.state_model.proofs.Representing.{rules_here}

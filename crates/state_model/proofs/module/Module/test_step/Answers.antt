@@ -1,13 +1,10 @@
-use Rattle.std.proofs.Common.{◌≡◌, [], List, Option, Some, subst, sym, ap, ◌∙◌}
-use Rattle.outside.specs.declared.traits.Sample.{Sample}
+use Rattle.std.proofs.Common.{◌≡◌, [], subst, sym}
 use Rattle.outside.proofs.Explanations.{explained_by}
-use Rattle.service_table.specs.declared.status.Status.{Status}
 use Rattle.module_frames.specs.PublicState.{no_block}
-use Rattle.state_model.specs.declared.self_testing.Judgement.{Judgement}
 use Rattle.state_model.specs.ModuleView.{ModuleView}
 use Rattle.state_model.specs.ModuleInvariant.{view_of}
 use Rattle.state_model.specs.MachineState.{MachineState}
-use Rattle.state_model.specs.Management.{Stepped, test_step}
+use Rattle.state_model.specs.Management.{test_step}
 use Rattle.state_model.specs.Represents.{Represents, IsServiceResult, machine_of}
 use Rattle.state_model.proofs.Representing.{rules_here}
 use Rattle.state_model.proofs.Judging.{stepped_represents, tested_without_noise, noise_status}
