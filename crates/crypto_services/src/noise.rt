@@ -15,8 +15,8 @@ use tested_noise::take_sample;
 /// One sample of noise, tested with all samples before it (SP 800-90B, section 4.4), or the error code of what failed.
 pub fn sample<E: Engine, N: Noise>(parts: &mut Parts<E>, noise: &mut N) -> Result<u8, u16>
     requires counts { (samples : List ℕ) × Counts parts.old.health samples }
-    ensures sampled { (samples : List ℕ) → Counts parts.old.health samples →
-        Explained (N.left noise.old) (N.left noise.new) (IsSampleOrCode samples result) }
+    ensures sampled { Explained (N.left noise.old) (N.left noise.new)
+        (λ events left. (samples : List ℕ) → Counts parts.old.health samples → IsSampleOrCode samples result events left) }
     ensures counts { IfOk result (λ byte. (samples : List ℕ) → Counts parts.old.health samples → Counts parts.new.health (samples ++ byte ∷ [])) }
     ensures others_stay { parts.new ≡ record parts.old { health = parts.new.health } }
     ensures fault_counted { MatchResult result (λ _. N.faults noise.new ≡ N.faults noise.old)
@@ -32,9 +32,10 @@ pub fn sample<E: Engine, N: Noise>(parts: &mut Parts<E>, noise: &mut N) -> Resul
 /// they were.
 pub fn seed<E: Engine, N: Noise>(parts: &mut Parts<E>, noise: &mut N) -> Result<(), Failure>
     requires counts { (samples : List ℕ) × Counts parts.old.health samples }
-    ensures seeded { (samples : List ℕ) → Counts parts.old.health samples → Explained (N.left noise.old) (N.left noise.new)
-        (λ events left. IsDrawn (instantiated E.calls parts.old.engine parts.old.drbg samples events) parts.new.engine parts.new.drbg parts.new.health result left) }
+    ensures seeded { Explained (N.left noise.old) (N.left noise.new) (λ events left. (samples : List ℕ) → Counts parts.old.health samples →
+        IsDrawn (instantiated E.calls parts.old.engine parts.old.drbg samples events) parts.new.engine parts.new.drbg parts.new.health result left) }
     ensures counter { OnOk result (parts.new.drbg.counter ≡ 1) }
+    ensures counted { OnOk result ((samples : List ℕ) × Counts parts.new.health samples) }
     ensures vault { parts.new.vault ≡ parts.old.vault }
     ensures fault_counted { MatchResult result (λ _. N.faults noise.new ≡ N.faults noise.old)
         (λ why. why ≡ Failure.NoiseFailed → FaultCounted (N.faults noise.old) (N.faults noise.new)) }

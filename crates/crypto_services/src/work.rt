@@ -61,9 +61,10 @@ impl Work {
         noise: &mut N,
     ) -> Result<(), Failure>
         requires counts { (samples : List ℕ) × Counts health.old samples }
-        ensures seeded { (samples : List ℕ) → Counts health.old samples → Explained (N.left noise.old) (N.left noise.new)
-            (λ events left. IsDrawn (instantiated E.calls engine.old drbg.old samples events) engine.new drbg.new health.new result left) }
+        ensures seeded { Explained (N.left noise.old) (N.left noise.new) (λ events left. (samples : List ℕ) → Counts health.old samples →
+            IsDrawn (instantiated E.calls engine.old drbg.old samples events) engine.new drbg.new health.new result left) }
         ensures counter { OnOk result (drbg.new.counter ≡ 1) }
+        ensures counted { OnOk result ((samples : List ℕ) × Counts health.new samples) }
         ensures fault_counted { MatchResult result (λ _. N.faults noise.new ≡ N.faults noise.old)
             (λ why. why ≡ Failure.NoiseFailed → FaultCounted (N.faults noise.old) (N.faults noise.new)) }
     {
@@ -82,9 +83,10 @@ fn seed_in<E: Engine, N: Noise>(
     requires zero { work.old ≡ zeros LARGEST_PAYLOAD }
     requires counts { (samples : List ℕ) × Counts health.old samples }
     ensures zero { work.new ≡ zeros LARGEST_PAYLOAD }
-    ensures seeded { (samples : List ℕ) → Counts health.old samples → Explained (N.left noise.old) (N.left noise.new)
-        (λ events left. IsDrawn (instantiated E.calls engine.old drbg.old samples events) engine.new drbg.new health.new result left) }
+    ensures seeded { Explained (N.left noise.old) (N.left noise.new) (λ events left. (samples : List ℕ) → Counts health.old samples →
+        IsDrawn (instantiated E.calls engine.old drbg.old samples events) engine.new drbg.new health.new result left) }
     ensures counter { OnOk result (drbg.new.counter ≡ 1) }
+    ensures counted { OnOk result ((samples : List ℕ) × Counts health.new samples) }
     ensures fault_counted { MatchResult result (λ _. N.faults noise.new ≡ N.faults noise.old)
         (λ why. why ≡ Failure.NoiseFailed → FaultCounted (N.faults noise.old) (N.faults noise.new)) }
 {

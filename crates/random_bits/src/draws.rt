@@ -52,8 +52,8 @@ pub fn instantiate<E: Engine, N: Noise>(
 ) -> Result<(), Failure>
     requires counts { (samples : List ℕ) × Counts health.old samples }
     requires room { length room.old ≡ 1408 }
-    ensures instantiated { (samples : List ℕ) → Counts health.old samples → Explained (N.left noise.old) (N.left noise.new)
-        (λ events left. IsDrawn (instantiated E.calls engine.old drbg.old samples events) engine.new drbg.new health.new result left) }
+    ensures instantiated { Explained (N.left noise.old) (N.left noise.new) (λ events left. (samples : List ℕ) → Counts health.old samples →
+        IsDrawn (instantiated E.calls engine.old drbg.old samples events) engine.new drbg.new health.new result left) }
     ensures counter { OnOk result (drbg.new.counter ≡ 1) }
     ensures counted { OnOk result ((samples : List ℕ) × Counts health.new samples) }
     ensures wiped { room.new ≡ zeros 1408 }
@@ -85,8 +85,8 @@ pub fn reseed<E: Engine, N: Noise>(
 ) -> Result<(), Failure>
     requires counts { (samples : List ℕ) × Counts health.old samples }
     requires room { length room.old ≡ 256 }
-    ensures reseeded { (samples : List ℕ) → Counts health.old samples → Explained (N.left noise.old) (N.left noise.new)
-        (λ events left. IsDrawn (reseeded E.calls engine.old drbg.old additional.now samples events) engine.new drbg.new health.new result left) }
+    ensures reseeded { Explained (N.left noise.old) (N.left noise.new) (λ events left. (samples : List ℕ) → Counts health.old samples →
+        IsDrawn (reseeded E.calls engine.old drbg.old additional.now samples events) engine.new drbg.new health.new result left) }
     ensures counter { OnOk result (drbg.new.counter ≡ 1) }
     ensures counted { OnOk result ((samples : List ℕ) × Counts health.new samples) }
     ensures wiped { room.new ≡ zeros 256 }
@@ -118,8 +118,8 @@ fn refresh<E: Engine, N: Noise>(
     requires room { length room.old ≡ 256 }
     requires zero { room.old ≡ zeros 256 }
     requires seeded { 1 ≤ drbg.old.counter }
-    ensures refreshed { (samples : List ℕ) → Counts health.old samples → Explained (N.left noise.old) (N.left noise.new)
-        (λ events left. IsDrawn (refreshed E.calls engine.old drbg.old samples events) engine.new drbg.new health.new result left) }
+    ensures refreshed { Explained (N.left noise.old) (N.left noise.new) (λ events left. (samples : List ℕ) → Counts health.old samples →
+        IsDrawn (refreshed E.calls engine.old drbg.old samples events) engine.new drbg.new health.new result left) }
     ensures counter { OnOk result ((1 ≤ drbg.new.counter) × (drbg.new.counter ≤ 1024)) }
     ensures counted { OnOk result ((samples : List ℕ) × Counts health.new samples) }
     ensures wiped { room.new ≡ zeros 256 }
@@ -149,8 +149,8 @@ pub fn draw<E: Engine, N: Noise>(
     requires seeded { 1 ≤ drbg.old.counter }
     requires most { length out.old ≤ 65536 }
     requires zero { out.old ≡ zeros (length out.old) }
-    ensures drawn { (samples : List ℕ) → Counts health.old samples → Explained (N.left noise.old) (N.left noise.new)
-        (λ events left. IsDrawn (drawn E.calls engine.old drbg.old additional.now (length out.old) samples events) engine.new drbg.new health.new result left
+    ensures drawn { Explained (N.left noise.old) (N.left noise.new) (λ events left. (samples : List ℕ) → Counts health.old samples →
+        IsDrawn (drawn E.calls engine.old drbg.old additional.now (length out.old) samples events) engine.new drbg.new health.new result left
         × OnOk result (out.new ≡ (drawn E.calls engine.old drbg.old additional.now (length out.old) samples events).bytes)) }
     ensures refused { OnErr result (out.new ≡ out.old) }
     ensures counted { OnOk result ((samples : List ℕ) × Counts health.new samples) }

@@ -24,7 +24,7 @@ use Rattle.state_model.specs.Permission.{IsPermittedIn}
 use Rattle.state_model.specs.Entries.{with_piece, entry_length}
 use Rattle.state_model.specs.MachineState.{MachineState, state_of}
 use Rattle.state_model.specs.Management.{Stepped, refused, done, with_public, with_tested, after_test, test_step}
-use Rattle.state_model.specs.SelfTesting.{Tested, test_due, test_for, due_at_first_use}
+use Rattle.state_model.specs.SelfTesting.{Tested, test_for, due_at_first_use}
 use Rattle.state_model.specs.Cryptographic.{service_at, ready_after, served, cryptographic_step}
 use Rattle.state_model.specs.Step.{dispatch, dispatch_request, perform}
 use Rattle.state_model.specs.Laws.{DataNeedsARole}
@@ -32,6 +32,7 @@ use Rattle.state_model.proofs.Permitted.{role_for_hash}
 use Rattle.state_model.proofs.Keeping.{hash_for_cryptographic}
 use Rattle.state_model.proofs.Sequences.{by_order}
 use Rattle.state_model.proofs.Testing.{tested_by}
+use Rattle.state_model.proofs.TestSteps.{test_step_by}
 use Rattle.state_model.proofs.RequestReading.{IsRead, request_read}
 
 -- an answer with data is one of a service of class data that was done
@@ -69,8 +70,9 @@ either_none false a b h k = k
 
 test_gives : {V : Type 0} (calls : Calls V) (s : MachineState V) (events : List Sample) → Gives service.TestStep s (test_step calls s events)
 test_gives {V} calls s events =
-    let Given : Tested V → Type 0 = λ t. Gives service.TestStep s (after_test s (with_tested s.shared t) t.judgement.refused events) in
-    tested_by calls s.shared.engine s.shared.public s.shared.tests_passed Given (λ more engine includes some. absurd (some refl)) (λ t engine some. absurd (some refl)) (test_due s.shared.public.tests_done)
+    let Given : Stepped V → Type 0 = λ after. Gives service.TestStep s after in
+    test_step_by calls s events Given (λ tests engine generator samples left some. absurd (some refl)) (λ why tests engine generator samples left some. absurd (some refl))
+    (λ why tests engine generator samples left some. absurd (some refl))
 
 cryptographic_gives : {V : Type 0} (calls : Calls V) (s : MachineState V) (events : List Sample) (what : CryptographicRequest) → is_permitted (cryptographic_service_for what) (state_of s) ≡ true
     → Gives (cryptographic_service_for what) s (cryptographic_step calls s events what)

@@ -15,7 +15,7 @@ use Rattle.ssp_slots.proofs.WellFormedSlots.{AreWellFormed-empty}
 use Rattle.outside.specs.declared.traits.Sample.{Sample}
 use Rattle.module_frames.specs.Requests.{RequestValue, CryptographicRequest, IsInRange, IsCryptographicInRange, request_of, cryptographic_service_for}
 use Rattle.module_frames.specs.Requests as request
-use Rattle.engine_core.specs.Calls.{Calls}
+use Rattle.engine_core.specs.Calls.{Calls, Keeps}
 use Rattle.crypto_services.specs.Services.{mac_at, mac_verify_at}
 use Rattle.state_model.specs.Permission.{IsPermittedIn}
 use Rattle.state_model.specs.MachineState.{MachineState, IsWellFormed, initial_state, state_of, vault_of}
@@ -27,12 +27,13 @@ use Rattle.state_model.proofs.Testing.{tested_by}
 use Rattle.state_model.specs.Step.{dispatch, dispatch_request, perform}
 use Rattle.state_model.specs.Laws.{StepsKeepTheRules}
 use Rattle.state_model.proofs.Permitted.{off_for_power_on, testing_for_test_step, officer_for_entry_begin, entering_for_entry_bytes, hash_for_mac}
-use Rattle.state_model.proofs.Rules.{number_taken_kept, power_on_kept, request_tests_kept, test_step_kept, select_role_kept, reset_kept, entry_begin_kept, entry_bytes_rules, entry_commit_kept, entry_over_kept, zeroise_kept, zeroise_all_kept, on_slot_kept, on_source_kept, cryptographic_kept, failed_use_is_kept}
+use Rattle.state_model.proofs.Rules.{number_taken_kept, power_on_kept, request_tests_kept, select_role_kept, reset_kept, entry_begin_kept, entry_bytes_rules, entry_commit_kept, entry_over_kept, zeroise_kept, zeroise_all_kept, on_slot_kept, on_source_kept, cryptographic_kept, failed_use_is_kept}
+use Rattle.state_model.proofs.TestSteps.{test_step_kept}
 use Rattle.state_model.proofs.Sequences.{by_order}
 use Rattle.state_model.proofs.RequestReading.{IsOfBytes, IsRead, request_read}
 
-pub begins : {V : Type 0} (engine : V) → IsWellFormed (initial_state engine)
-begins engine = record {
+pub begins : {V : Type 0} (engine : V) (image digest : List ℕ) → IsWellFormed (initial_state engine image digest)
+begins engine image digest = record {
   public = record {
     period = omega arith;
     counting = λ _ some. some;
@@ -81,45 +82,45 @@ cryptographic_step_kept {V} calls s events what rules allowed range =
     (λ t engine. failed_use_is_kept s t engine rules allowed) (due_at_first_use s.shared.tests_passed (test_for what))
 
 -- what is done for a request keeps the rules
-performed_kept : {V : Type 0} (calls : Calls V) (s : MachineState V) (events : List Sample) (what : RequestValue) → IsWellFormed s → IsInRange what → IsOfBytes what → IsPermittedIn what (state_of s)
+performed_kept : {V : Type 0} (calls : Calls V) (s : MachineState V) (events : List Sample) (what : RequestValue) → Keeps calls → IsWellFormed s → IsInRange what → IsOfBytes what → IsPermittedIn what (state_of s)
     → IsWellFormed (perform calls s events what).machine
-performed_kept calls s events (request.PowerOn period) rules range bytes allowed = power_on_kept s period rules (off_for_power_on (state_of s) allowed) range
-performed_kept calls s events request.TestStep rules range bytes allowed = test_step_kept calls s events rules (testing_for_test_step (state_of s) allowed)
-performed_kept calls s events request.RequestTests rules range bytes allowed = request_tests_kept s rules allowed
-performed_kept calls s events request.ShowStatus rules range bytes allowed = rules
-performed_kept calls s events request.ShowVersion rules range bytes allowed = rules
-performed_kept calls s events (request.SelectRole role) rules range bytes allowed = select_role_kept s role rules allowed
-performed_kept calls s events request.Reset rules range bytes allowed = reset_kept s rules
-performed_kept calls s events (request.EntryBegin slot header long) rules range bytes allowed =
+performed_kept calls s events (request.PowerOn period) met rules range bytes allowed = power_on_kept s period rules (off_for_power_on (state_of s) allowed) range
+performed_kept calls s events request.TestStep met rules range bytes allowed = test_step_kept calls s events met rules (testing_for_test_step (state_of s) allowed)
+performed_kept calls s events request.RequestTests met rules range bytes allowed = request_tests_kept s rules allowed
+performed_kept calls s events request.ShowStatus met rules range bytes allowed = rules
+performed_kept calls s events request.ShowVersion met rules range bytes allowed = rules
+performed_kept calls s events (request.SelectRole role) met rules range bytes allowed = select_role_kept s role rules allowed
+performed_kept calls s events request.Reset met rules range bytes allowed = reset_kept s rules
+performed_kept calls s events (request.EntryBegin slot header long) met rules range bytes allowed =
     entry_begin_kept s (record { slot = slot; header = header; length = long }) rules (officer_for_entry_begin (state_of s) allowed) range.0 range.1 bytes range.2
-performed_kept calls s events (request.EntryBytes piece) rules range bytes allowed = entry_bytes_rules s piece events bytes rules (entering_for_entry_bytes (state_of s) allowed)
-performed_kept calls s events (request.EntryCommit check) rules range bytes allowed = entry_commit_kept calls s check events rules (entering_for_entry_bytes (state_of s) allowed)
-performed_kept calls s events request.EntryAbort rules range bytes allowed = entry_over_kept s rules (entering_for_entry_bytes (state_of s) allowed)
-performed_kept calls s events (request.Zeroise slot) rules range bytes allowed = zeroise_kept s slot rules
-performed_kept calls s events request.ZeroiseAll rules range bytes allowed = zeroise_all_kept s rules
-performed_kept calls s events (request.ShowSlot slot) rules range bytes allowed = rules
-performed_kept calls s events (request.Cryptographic what) rules range bytes allowed =
+performed_kept calls s events (request.EntryBytes piece) met rules range bytes allowed = entry_bytes_rules s piece events bytes rules (entering_for_entry_bytes (state_of s) allowed)
+performed_kept calls s events (request.EntryCommit check) met rules range bytes allowed = entry_commit_kept calls s check events rules (entering_for_entry_bytes (state_of s) allowed)
+performed_kept calls s events request.EntryAbort met rules range bytes allowed = entry_over_kept s rules (entering_for_entry_bytes (state_of s) allowed)
+performed_kept calls s events (request.Zeroise slot) met rules range bytes allowed = zeroise_kept s slot rules
+performed_kept calls s events request.ZeroiseAll met rules range bytes allowed = zeroise_all_kept s rules
+performed_kept calls s events (request.ShowSlot slot) met rules range bytes allowed = rules
+performed_kept calls s events (request.Cryptographic what) met rules range bytes allowed =
     cryptographic_step_kept calls s events what rules (hash_for_cryptographic what (state_of s) allowed) range
 
 requested_kept : {V : Type 0} (calls : Calls V) (s : MachineState V) (events : List Sample) (found : Service) (body : List ℕ) (read : Option RequestValue) → IfSome read (IsRead found body) → IsBytes body
-    → IsWellFormed s → is_permitted found (state_of s) ≡ true → IsWellFormed (dispatch_request calls s events read).machine
-requested_kept calls s events found body None is_read are_bytes rules allowed = rules
-requested_kept calls s events found body (Some what) is_read are_bytes rules allowed =
-    performed_kept calls s events what rules is_read.0 (is_read.2 are_bytes) (ap (λ f. is_permitted f (state_of s)) is_read.1 ∙ allowed)
+    → Keeps calls → IsWellFormed s → is_permitted found (state_of s) ≡ true → IsWellFormed (dispatch_request calls s events read).machine
+requested_kept calls s events found body None is_read are_bytes met rules allowed = rules
+requested_kept calls s events found body (Some what) is_read are_bytes met rules allowed =
+    performed_kept calls s events what met rules is_read.0 (is_read.2 are_bytes) (ap (λ f. is_permitted f (state_of s)) is_read.1 ∙ allowed)
 
 choice_kept : {V : Type 0} (calls : Calls V) (s : MachineState V) (events : List Sample) (found : Service) (allowed : Bool) (body : List ℕ) → is_permitted found (state_of s) ≡ allowed → IsBytes body
-    → IsWellFormed s → IsWellFormed (if allowed then dispatch_request calls s events (request_of found body) else refused s status.NotInState events).machine
-choice_kept calls s events found true body is are_bytes rules = requested_kept calls s events found body (request_of found body) (request_read found body) are_bytes rules is
-choice_kept calls s events found false body is are_bytes rules = rules
+    → Keeps calls → IsWellFormed s → IsWellFormed (if allowed then dispatch_request calls s events (request_of found body) else refused s status.NotInState events).machine
+choice_kept calls s events found true body is are_bytes met rules = requested_kept calls s events found body (request_of found body) (request_read found body) are_bytes met rules is
+choice_kept calls s events found false body is are_bytes met rules = rules
 
-dispatched_kept : {V : Type 0} (calls : Calls V) (s : MachineState V) (events : List Sample) (found : Option Service) (body : List ℕ) → IsBytes body → IsWellFormed s
+dispatched_kept : {V : Type 0} (calls : Calls V) (s : MachineState V) (events : List Sample) (found : Option Service) (body : List ℕ) → IsBytes body → Keeps calls → IsWellFormed s
     → IsWellFormed (dispatch calls s events found body).machine
-dispatched_kept calls s events None body are_bytes rules = rules
-dispatched_kept calls s events (Some found) body are_bytes rules = choice_kept calls s events found (is_permitted found (state_of s)) body refl are_bytes rules
+dispatched_kept calls s events None body are_bytes met rules = rules
+dispatched_kept calls s events (Some found) body are_bytes met rules = choice_kept calls s events found (is_permitted found (state_of s)) body refl are_bytes met rules
 
-pub keeps : {V : Type 0} (calls : Calls V) → StepsKeepTheRules calls
-keeps {V} calls s events command are_bytes rules =
+pub keeps : {V : Type 0} (calls : Calls V) → Keeps calls → StepsKeepTheRules calls
+keeps {V} calls met s events command are_bytes rules =
     let Kept : Stepped V → Type 0 = λ after. IsWellFormed after.machine in
-    by_order calls s events command Kept (λ _. dispatched_kept calls s events (service_numbered command.service) command.body are_bytes rules)
-    (λ number _ _. dispatched_kept calls (with_public s (sequence_taken s.shared.public)) events (service_numbered command.service) command.body are_bytes (number_taken_kept s rules))
+    by_order calls s events command Kept (λ _. dispatched_kept calls s events (service_numbered command.service) command.body are_bytes met rules)
+    (λ number _ _. dispatched_kept calls (with_public s (sequence_taken s.shared.public)) events (service_numbered command.service) command.body are_bytes met (number_taken_kept s rules))
     (λ number _ _. rules)

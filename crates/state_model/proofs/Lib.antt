@@ -1,4 +1,6 @@
 pub mod Testing
+pub mod Seeding
+pub mod TestSteps
 pub mod Permitted
 pub mod PublicRules
 pub mod EntryRules

@@ -18,12 +18,13 @@ use Rattle.engine_core.specs.Calls.{Calls}
 use Rattle.state_model.specs.Entries.{with_piece, entry_length}
 use Rattle.state_model.specs.MachineState.{MachineState, Shared, state_of}
 use Rattle.state_model.specs.Management.{Stepped, refused, done, with_public, tests_forgotten, with_tested, after_test, test_step}
-use Rattle.state_model.specs.SelfTesting.{Tested, test_due, test_for, due_at_first_use}
+use Rattle.state_model.specs.SelfTesting.{Tested, test_for, due_at_first_use}
 use Rattle.state_model.specs.Cryptographic.{service_at, ready_after, served, cryptographic_step}
 use Rattle.state_model.specs.Step.{dispatch, dispatch_request, perform, is_in_order, number_taken}
 use Rattle.state_model.specs.Laws.{OutOfOrderByTheNumber, OutOfOrderChangesNothing, NumbersAreTaken}
 use Rattle.state_model.proofs.Sequences.{by_order}
 use Rattle.state_model.proofs.Testing.{tested_by}
+use Rattle.state_model.proofs.TestSteps.{test_step_by}
 use Rattle.state_model.proofs.Statuses.{dispatched_in_order}
 
 -- the expected number is that of a state
@@ -42,9 +43,9 @@ settled shared false = refl
 
 stepped : {V : Type 0} (calls : Calls V) (s : MachineState V) (events : List Sample) → Expects s (test_step calls s events)
 stepped {V} calls s events =
-    let Kept : Tested V → Type 0 = λ t. Expects s (after_test s (with_tested s.shared t) t.judgement.refused events) in
-    tested_by calls s.shared.engine s.shared.public s.shared.tests_passed Kept (λ more engine includes. tested s.shared.public (nat_lt s.shared.public.tests_done 2)) (λ t engine. refl)
-    (test_due s.shared.public.tests_done)
+    let Kept : Stepped V → Type 0 = λ after. Expects s after in
+    test_step_by calls s events Kept (λ tests engine generator samples left. tested s.shared.public (nat_lt s.shared.public.tests_done 2)) (λ why tests engine generator samples left. refl)
+    (λ why tests engine generator samples left. refl)
 
 used : {V : Type 0} (calls : Calls V) (s : MachineState V) (events : List Sample) (what : CryptographicRequest) → Expects s (cryptographic_step calls s events what)
 used {V} calls s events what =

@@ -15,14 +15,14 @@ use Rattle.outside.specs.declared.traits.Sample.{Sample}
 use Rattle.module_frames.specs.declared.public_state.PublicState.{PublicState}
 use Rattle.module_frames.specs.PublicState.{no_block}
 use Rattle.module_frames.specs.PublicEffects.{sequence_taken, use_counted, is_period_over, sent_to_tests, has_failed, role_state}
+use Rattle.service_table.specs.declared.failure.Failure.{Failure}
 use Rattle.service_table.specs.declared.failure.Failure.TheVariants as failure
 use Rattle.self_tests.specs.declared.numbers.Test.{Test}
 use Rattle.self_tests.specs.declared.numbers.Test.TheVariants as test
 use Rattle.self_tests.specs.Tests.{number_of}
-use Rattle.self_tests.specs.TestSet.{has_test, with_test}
-use Rattle.self_tests.specs.KnownAnswers.{answers_right, engine_after}
-use Rattle.state_model.specs.SelfTesting.{Tested, tested, judgement}
-use Rattle.state_model.proofs.Testing.{Includes, with_test_includes, has_mac, has_generator, is_failure, passed_more, passed_in_use, use_of_passed, none_done}
+use Rattle.self_tests.specs.TestSet.{has_test}
+use Rattle.state_model.specs.SelfTesting.{Tested}
+use Rattle.state_model.proofs.Testing.{Includes, step_tested_by, is_failure, passed_more, passed_in_use, use_of_passed, none_done}
 use Rattle.ssp_slots.specs.declared.slot.Slot.{Slot}
 use Rattle.ssp_slots.specs.declared.slot_fault.SlotFault.{SlotFault}
 use Rattle.ssp_slots.specs.Refusals.{source_fault, vacancy_fault}
@@ -34,7 +34,7 @@ use Rattle.crypto_services.specs.AtSlots.{Answer, SlotResult, slot_at, on_slot, 
 use Rattle.state_model.specs.declared.entry.Target.{Target}
 use Rattle.state_model.specs.Entries.{with_piece, entry_length, IsEntered}
 use Rattle.state_model.specs.Commit.{commit_at, unless, entered, after_check, check_value}
-use Rattle.state_model.specs.MachineState.{MachineState, Shared, IsReturn, IsPublicState, HavePassed, ArePassed, AreHealthy, state_of, vault_of, with_vault}
+use Rattle.state_model.specs.MachineState.{MachineState, Shared, IsReturn, IsPublicState, HavePassed, ArePassed, AreHealthy, IsFailure, state_of, vault_of, with_vault}
 use Rattle.state_model.specs.MachineState.{IsWellFormed as IsMachine}
 use Rattle.state_model.specs.Management.{refused, done, with_public, with_tested, after_test, power_on, request_tests, test_step, select_role, reset, entry_begin, entry_bytes, entry_over, entry_commit, committed, with_slots, zeroise, zeroise_all}
 use Rattle.state_model.specs.Cryptographic.{after_slots}
@@ -43,7 +43,7 @@ use Rattle.state_model.proofs.PublicRules.{sequence_taken_kept, powered_on_kept,
 use Rattle.state_model.proofs.EntryRules.{underway_begun, underway_with_piece, underway_target}
 
 -- another public state, from a state in which nothing failed and nothing is entered to such a one
-quiet_kept : {V : Type 0} (s : MachineState V) (public : PublicState) (tests : ℕ) → IsMachine s → IsPublicState public → ArePassed public.state public.tests_done tests → state_of s ≢ state.Error
+quiet_kept : {V : Type 0} (s : MachineState V) (public : PublicState) (tests : ℕ) → IsMachine s → IsPublicState public → ArePassed public.state public.tests_done tests s.shared.generator → state_of s ≢ state.Error
     → state_of s ≢ state.Entry → public.state ≢ state.Entry → (let t : MachineState V = record s { shared = record s.shared { public = public; tests_passed = tests } } in IsMachine t)
 quiet_kept s public tests rules kept passed healthy quiet still = record {
   public = kept;
@@ -64,88 +64,15 @@ power_on_kept s period rules off small =
 
 pub request_tests_kept : {V : Type 0} (s : MachineState V) → IsMachine s → is_permitted service.RequestTests (state_of s) ≡ true → IsMachine (request_tests s)
 request_tests_kept s rules allowed =
-    quiet_kept s _ 0 rules (tests_requested_kept s.shared.public rules.public allowed) (none_done 0) (not_failed_for_request_tests (state_of s) allowed)
+    quiet_kept s _ 0 rules (tests_requested_kept s.shared.public rules.public allowed) (none_done 0 s.shared.generator) (not_failed_for_request_tests (state_of s) allowed)
     (not_entering_for_request_tests (state_of s) allowed) (λ e. cc)
-
--- what was tested, and an engine
-abbrev with_judged : {V : Type 0} → MachineState V → PublicState → ℕ → V → MachineState V
-with_judged s public tests engine = record s { shared = record s.shared { public = public; tests_passed = tests; engine = engine } }
-
--- a test passed, or there is none, and the next is due or none is any more
-passed_kept : {V : Type 0} (s : MachineState V) (more : Bool) (tests : ℕ) (engine : V) → nat_lt s.shared.public.tests_done 2 ≡ more → IsMachine s → state_of s ≡ state.SelfTest
-    → (more ≡ true → has_test tests test.HmacSha256 ≡ true) → (more ≡ false → HavePassed tests)
-    → (let next : PublicState = if more then record s.shared.public { tests_done = s.shared.public.tests_done + 1 } else record s.shared.public { state = s.shared.public.return_state; return_state = state.Off; tests_done = 0 } in
-    IsMachine (with_judged s next tests engine))
-passed_kept s true tests engine is rules testing first last = record {
-  public = test_done_by s.shared.public true is rules.public testing;
-  passed = rw testing (λ some. first refl);
-  healthy = λ _. rules.healthy (λ e. cc);
-  slots = rules.slots;
-  entering = λ e. cc;
-  wiped = λ _. rules.wiped (λ e. cc);
-}
-passed_kept s false tests engine is rules testing first last = record {
-  public = test_done_by s.shared.public false is rules.public testing;
-  passed = use_of_passed s.shared.public.return_state 0 tests (rules.public.testing testing).0 (last refl);
-  healthy = λ _. rules.healthy (λ e. cc);
-  slots = rules.slots;
-  entering = λ e. absurd (return_is_not_entry s.shared.public.return_state (rules.public.testing testing).0 e);
-  wiped = λ _. rules.wiped (λ e. cc);
-}
-
--- a test failed
-failed_test_kept : {V : Type 0} (s : MachineState V) (t : Test) (engine : V) → IsMachine s → state_of s ≡ state.SelfTest
-    → IsMachine (with_judged s (has_failed (failure.KnownAnswer (number_of t)) s.shared.public) s.shared.tests_passed engine)
-failed_test_kept s t engine rules testing = record {
-  public = failed_kept s.shared.public (failure.KnownAnswer (number_of t)) rules.public (is_failure t);
-  passed = tt;
-  healthy = λ other. absurd (other refl);
-  slots = rules.slots;
-  entering = λ e. cc;
-  wiped = λ _. rules.wiped (λ e. cc);
-}
-
-pub test_step_kept : {V : Type 0} (calls : Calls V) (s : MachineState V) (events : List Sample) → IsMachine s → state_of s ≡ state.SelfTest → IsMachine (test_step calls s events).machine
-test_step_kept {V} calls s events rules testing = by_count (n == 0) refl (n == 1) refl (nat_lt n 2) refl
-  where
-    n : ℕ
-    n = s.shared.public.tests_done
-
-    most : n ≤ 2
-    most = (rules.public.testing testing).1
-
-    -- the tests of the first and the last step, right or wrong
-    first : (right : Bool) → nat_lt n 2 ≡ true → (let judged = judgement s.shared.public s.shared.tests_passed test.HmacSha256 right in
-        IsMachine (after_test s (with_tested s.shared (record { judgement = judged; engine = engine_after calls s.shared.engine test.HmacSha256 })) judged.refused events).machine)
-    first true more = rw more (passed_kept s true (with_test s.shared.tests_passed test.HmacSha256) _ more rules testing (λ _. has_mac s.shared.tests_passed) (λ e. cc))
-    first false more = failed_test_kept s test.HmacSha256 _ rules testing
-
-    last : (right : Bool) → nat_lt n 2 ≡ false → has_test s.shared.tests_passed test.HmacSha256 ≡ true → (let judged = judgement s.shared.public s.shared.tests_passed test.Generator right in
-        IsMachine (after_test s (with_tested s.shared (record { judgement = judged; engine = engine_after calls s.shared.engine test.Generator })) judged.refused events).machine)
-    last true over has = rw over (passed_kept s false (with_test s.shared.tests_passed test.Generator) _ over rules testing (λ e. cc) (λ _. record {
-      mac = with_test_includes s.shared.tests_passed test.Generator test.HmacSha256 has;
-      generator = has_generator s.shared.tests_passed;
-    }))
-    last false over has = failed_test_kept s test.Generator _ rules testing
-
-    earlier : 1 ≤ n → has_test s.shared.tests_passed test.HmacSha256 ≡ true
-    earlier some = (rw testing at rules.passed) some
-
-    by_count : (zero' : Bool) → (n == 0) ≡ zero' → (one : Bool) → (n == 1) ≡ one → (more : Bool) → nat_lt n 2 ≡ more
-        → (let due : Option Test = if zero' then Some test.HmacSha256 else if one then None else Some test.Generator in
-        let t : Tested V = tested calls s.shared.engine s.shared.public s.shared.tests_passed due in IsMachine (after_test s (with_tested s.shared t) t.judgement.refused events).machine)
-    by_count true is one k true m = first (answers_right calls s.shared.engine test.HmacSha256) m
-    by_count true is one k false m = absurd (grind (arith, nat_tests, is, m))
-    by_count false is true k true m = rw m (passed_kept s true s.shared.tests_passed _ m rules testing (λ _. earlier (grind (arith, nat_tests, k))) (λ e. cc))
-    by_count false is true k false m = absurd (grind (arith, nat_tests, k, m))
-    by_count false is false k true m = absurd (grind (arith, nat_tests, is, k, m))
-    by_count false is false k false m = last (answers_right calls s.shared.engine test.Generator) m (earlier (grind (arith, nat_tests, m)))
 
 pub select_role_kept : {V : Type 0} (s : MachineState V) (role : ℕ) → IsMachine s → is_permitted service.SelectRole (state_of s) ≡ true → IsMachine (select_role s role)
 select_role_kept s role rules allowed =
     let use' = return_for_select_role (state_of s) allowed in
     quiet_kept s _ s.shared.tests_passed rules (role_selected_kept s.shared.public role rules.public use')
-    (use_of_passed (role_state role) s.shared.public.tests_done s.shared.tests_passed (role_is_of_use role) (passed_in_use (state_of s) s.shared.public.tests_done s.shared.tests_passed use' rules.passed)) (return_is_faultless (state_of s) use')
+    (use_of_passed (role_state role) s.shared.public.tests_done s.shared.tests_passed s.shared.generator (role_is_of_use role)
+        (passed_in_use (state_of s) s.shared.public.tests_done s.shared.tests_passed s.shared.generator use' rules.passed)) (return_is_faultless (state_of s) use')
     (return_is_not_entry (state_of s) use') (return_is_not_entry _ (role_is_of_use role))
 
 -- no sample shows no fault
@@ -275,7 +202,7 @@ on_source_kept engine slot kind approved after answer well =
     under_key_kept engine _ _ _ after answer (source_kept slot (source_fault slot.header kind approved) well)
 
 -- what comes before and after the slots
-after_kept : {V : Type 0} (s : MachineState V) (tests : ℕ) (engine : V) (slots : List Slot) (over : Bool) → IsMachine s → IsReturn (state_of s) → HavePassed tests
+after_kept : {V : Type 0} (s : MachineState V) (tests : ℕ) (engine : V) (slots : List Slot) (over : Bool) → IsMachine s → IsReturn (state_of s) → HavePassed tests s.shared.generator
     → AreWellFormed (record (vault_of s) { slots = slots })
     → IsPublicState (if over then sent_to_tests (use_counted s.shared.public) else use_counted s.shared.public)
     → (let counted : Shared V = record s.shared { public = use_counted s.shared.public; tests_passed = tests; engine = engine } in
@@ -283,7 +210,7 @@ after_kept : {V : Type 0} (s : MachineState V) (tests : ℕ) (engine : V) (slots
     let t : MachineState V = record s { shared = after; slots = slots } in IsMachine t)
 after_kept s tests engine slots true rules use' have are kept = record {
   public = kept;
-  passed = none_done 0;
+  passed = none_done 0 s.shared.generator;
   healthy = λ _. rules.healthy (return_is_faultless (state_of s) use');
   slots = are;
   entering = λ e. cc;
@@ -291,7 +218,7 @@ after_kept s tests engine slots true rules use' have are kept = record {
 }
 after_kept s tests engine slots false rules use' have are kept = record {
   public = kept;
-  passed = use_of_passed (state_of s) s.shared.public.tests_done tests use' have;
+  passed = use_of_passed (state_of s) s.shared.public.tests_done tests s.shared.generator use' have;
   healthy = rules.healthy;
   slots = are;
   entering = rules.entering;
@@ -305,7 +232,7 @@ pub cryptographic_kept : {V : Type 0} (s : MachineState V) (tests : ℕ) (engine
     let t : MachineState V = record s { shared = after_slots counted; slots = slots } in IsMachine t)
 cryptographic_kept s tests engine slots rules allowed includes are =
     let use' = return_for_hash (state_of s) allowed in
-    let have = passed_more tests s.shared.tests_passed includes (passed_in_use (state_of s) s.shared.public.tests_done s.shared.tests_passed use' rules.passed) in
+    let have = passed_more tests s.shared.tests_passed s.shared.generator includes (passed_in_use (state_of s) s.shared.public.tests_done s.shared.tests_passed s.shared.generator use' rules.passed) in
     after_kept s tests engine slots (is_period_over (use_counted s.shared.public)) rules use' have are (used_kept s.shared.public rules.public use')
 
 -- one whose known-answer test failed

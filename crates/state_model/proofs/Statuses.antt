@@ -27,39 +27,34 @@ use Rattle.state_model.specs.Commit.{unless, check_value, entered}
 use Rattle.state_model.specs.Entries.{with_piece, entry_length}
 use Rattle.state_model.specs.MachineState.{MachineState, state_of}
 use Rattle.state_model.specs.Management.{Stepped, refused, done, committed, with_public, with_tested, after_test, test_step}
-use Rattle.state_model.specs.SelfTesting.{Tested, test_due, test_for, due_at_first_use}
+use Rattle.state_model.specs.SelfTesting.{Tested, test_for, due_at_first_use}
 use Rattle.state_model.specs.Cryptographic.{service_at, ready_after, served, cryptographic_step}
 use Rattle.state_model.specs.Step.{step, dispatch, dispatch_request, perform, indicated}
 use Rattle.state_model.proofs.Sequences.{by_order}
 use Rattle.state_model.proofs.Testing.{tested_by}
+use Rattle.state_model.proofs.TestSteps.{test_step_by}
 
--- no test takes one
-test_left : {V : Type 0} (calls : Calls V) (s : MachineState V) (events : List Sample) → (test_step calls s events).left ≡ events
-test_left {V} calls s events =
-    let Left : Tested V → Type 0 = λ t. (after_test s (with_tested s.shared t) t.judgement.refused events).left ≡ events in
-    tested_by calls s.shared.engine s.shared.public s.shared.tests_passed Left (λ more engine includes. refl) (λ t engine. refl) (test_due s.shared.public.tests_done)
-
--- no service takes an event of noise yet
-pub perform_left : {V : Type 0} (calls : Calls V) (s : MachineState V) (events : List Sample) (what : RequestValue) → (perform calls s events what).left ≡ events
-perform_left calls s events (request.EntryBytes piece) = by_room (nat_le (s.entry.filled + length piece) (entry_length s.entry))
+-- no service but TestStep takes an event of noise yet
+pub perform_left : {V : Type 0} (calls : Calls V) (s : MachineState V) (events : List Sample) (what : RequestValue) → what ≢ request.TestStep → (perform calls s events what).left ≡ events
+perform_left calls s events (request.EntryBytes piece) other = by_room (nat_le (s.entry.filled + length piece) (entry_length s.entry))
   where
     by_room : (fits : Bool) → (if fits then done (record s { entry = with_piece s.entry piece }) no_block events else refused s status.BadLength events).left ≡ events
     by_room true = refl
     by_room false = refl
-perform_left calls s events (request.PowerOn period) = refl
-perform_left calls s events request.TestStep = test_left calls s events
-perform_left calls s events request.RequestTests = refl
-perform_left calls s events request.ShowStatus = refl
-perform_left calls s events request.ShowVersion = refl
-perform_left calls s events (request.SelectRole role) = refl
-perform_left calls s events request.Reset = refl
-perform_left calls s events (request.EntryBegin slot header long) = refl
-perform_left calls s events (request.EntryCommit check) = refl
-perform_left calls s events request.EntryAbort = refl
-perform_left calls s events (request.Zeroise slot) = refl
-perform_left calls s events request.ZeroiseAll = refl
-perform_left calls s events (request.ShowSlot slot) = refl
-perform_left calls s events (request.Cryptographic what) = refl
+perform_left calls s events (request.PowerOn period) other = refl
+perform_left calls s events request.TestStep other = absurd (other refl)
+perform_left calls s events request.RequestTests other = refl
+perform_left calls s events request.ShowStatus other = refl
+perform_left calls s events request.ShowVersion other = refl
+perform_left calls s events (request.SelectRole role) other = refl
+perform_left calls s events request.Reset other = refl
+perform_left calls s events (request.EntryBegin slot header long) other = refl
+perform_left calls s events (request.EntryCommit check) other = refl
+perform_left calls s events request.EntryAbort other = refl
+perform_left calls s events (request.Zeroise slot) other = refl
+perform_left calls s events request.ZeroiseAll other = refl
+perform_left calls s events (request.ShowSlot slot) other = refl
+perform_left calls s events (request.Cryptographic what) other = refl
 
 -- What holds of each status that a service may answer.
 pub record OfServices (P : Status → Type 0) : Type 0 where
@@ -106,10 +101,11 @@ committed_status P of calls s (Some target) check =
     (fault_or_status P of _ _ (vacancy_fault (slot_at s.slots target.slot).header) _
     (unless_status P _ _ (not (bytes_eq check (check_value calls s.shared.engine target (entered s.entry)))) status.CheckFailed _ of.check_failed of.ok))
 
-test_status : {V : Type 0} (P : Status → Type 0) → OfServices P → (calls : Calls V) (s : MachineState V) (events : List Sample) → P (test_step calls s events).status
-test_status {V} P of calls s events =
-    let Answered : Tested V → Type 0 = λ t. P (after_test s (with_tested s.shared t) t.judgement.refused events).status in
-    tested_by calls s.shared.engine s.shared.public s.shared.tests_passed Answered (λ more engine includes. of.ok) (λ t engine. of.test_failed) (test_due s.shared.public.tests_done)
+test_status : {V : Type 0} (P : Status → Type 0) → OfServices P → P status.NoiseFault → (calls : Calls V) (s : MachineState V) (events : List Sample) → P (test_step calls s events).status
+test_status {V} P of noise calls s events =
+    let Answered : Stepped V → Type 0 = λ after. P after.status in
+    test_step_by calls s events Answered (λ tests engine generator samples left. of.ok) (λ why tests engine generator samples left. of.test_failed)
+    (λ why tests engine generator samples left. noise)
 
 cryptographic_status : {V : Type 0} (P : Status → Type 0) → OfServices P → (calls : Calls V) (s : MachineState V) (events : List Sample) (what : CryptographicRequest)
     → P (cryptographic_step calls s events what).status
@@ -118,27 +114,27 @@ cryptographic_status {V} P of calls s events what =
     tested_by calls s.shared.engine (use_counted s.shared.public) s.shared.tests_passed Answered (λ more engine includes. service_status P of calls engine [] s.slots what) (λ t engine. of.test_failed)
     (due_at_first_use s.shared.tests_passed (test_for what))
 
--- so it holds of the status of each request that is performed
-pub performed_status : {V : Type 0} (P : Status → Type 0) → OfServices P → (calls : Calls V) (s : MachineState V) (events : List Sample) (what : RequestValue) → P (perform calls s events what).status
-performed_status P of calls s events (request.EntryBytes piece) = by_room (nat_le (s.entry.filled + length piece) (entry_length s.entry))
+-- so it holds of the status of each request that is performed; TestStep alone may meet a fault of noise
+pub performed_status : {V : Type 0} (P : Status → Type 0) → OfServices P → (calls : Calls V) (s : MachineState V) (events : List Sample) (what : RequestValue) → (what ≡ request.TestStep → P status.NoiseFault) → P (perform calls s events what).status
+performed_status P of calls s events (request.EntryBytes piece) noise = by_room (nat_le (s.entry.filled + length piece) (entry_length s.entry))
   where
     by_room : (fits : Bool) → P (if fits then done (record s { entry = with_piece s.entry piece }) no_block events else refused s status.BadLength events).status
     by_room true = of.ok
     by_room false = of.bad_length
-performed_status P of calls s events (request.EntryCommit check) = committed_status P of calls s s.entry.target check
-performed_status P of calls s events (request.Cryptographic what) = cryptographic_status P of calls s events what
-performed_status P of calls s events (request.PowerOn period) = of.ok
-performed_status P of calls s events request.TestStep = test_status P of calls s events
-performed_status P of calls s events request.RequestTests = of.ok
-performed_status P of calls s events request.ShowStatus = of.ok
-performed_status P of calls s events request.ShowVersion = of.ok
-performed_status P of calls s events (request.SelectRole role) = of.ok
-performed_status P of calls s events request.Reset = of.ok
-performed_status P of calls s events (request.EntryBegin slot header long) = of.ok
-performed_status P of calls s events request.EntryAbort = of.ok
-performed_status P of calls s events (request.Zeroise slot) = of.ok
-performed_status P of calls s events request.ZeroiseAll = of.ok
-performed_status P of calls s events (request.ShowSlot slot) = of.ok
+performed_status P of calls s events (request.EntryCommit check) noise = committed_status P of calls s s.entry.target check
+performed_status P of calls s events (request.Cryptographic what) noise = cryptographic_status P of calls s events what
+performed_status P of calls s events (request.PowerOn period) noise = of.ok
+performed_status P of calls s events request.TestStep noise = test_status P of (noise refl) calls s events
+performed_status P of calls s events request.RequestTests noise = of.ok
+performed_status P of calls s events request.ShowStatus noise = of.ok
+performed_status P of calls s events request.ShowVersion noise = of.ok
+performed_status P of calls s events (request.SelectRole role) noise = of.ok
+performed_status P of calls s events request.Reset noise = of.ok
+performed_status P of calls s events (request.EntryBegin slot header long) noise = of.ok
+performed_status P of calls s events request.EntryAbort noise = of.ok
+performed_status P of calls s events (request.Zeroise slot) noise = of.ok
+performed_status P of calls s events request.ZeroiseAll noise = of.ok
+performed_status P of calls s events (request.ShowSlot slot) noise = of.ok
 
 -- what a slot refuses is no fault of noise
 fault_is_none : (why : SlotFault) → fault_status why ≢ status.NoiseFault
@@ -149,35 +145,29 @@ fault_is_none fault.Spent = λ e. cc
 fault_is_none fault.OccupiedSlot = λ e. cc
 fault_is_none fault.NotExportable = λ e. cc
 
-of_no_noise : OfServices (λ why. why ≢ status.NoiseFault)
-of_no_noise = record { ok = λ e. cc; test_failed = λ e. cc; bad_length = λ e. cc; check_failed = λ e. cc; auth_failed = λ e. cc; by_slot = fault_is_none }
+pub no_noise_fault : {V : Type 0} (calls : Calls V) (s : MachineState V) (events : List Sample) (what : RequestValue) → what ≢ request.TestStep → (perform calls s events what).status ≢ status.NoiseFault
+no_noise_fault calls s events what other = performed_status (λ why. why ≢ status.NoiseFault)
+    (record { ok = λ e. cc; test_failed = λ e. cc; bad_length = λ e. cc; check_failed = λ e. cc; auth_failed = λ e. cc; by_slot = fault_is_none })
+    calls s events what (λ is. absurd (other is))
 
-requested_status : {V : Type 0} (P : Status → Type 0) → OfServices P → P status.BadBody → (calls : Calls V) (s : MachineState V) (events : List Sample) (read : Option RequestValue)
+requested_status : {V : Type 0} (P : Status → Type 0) → OfServices P → P status.NoiseFault → P status.BadBody → (calls : Calls V) (s : MachineState V) (events : List Sample) (read : Option RequestValue)
     → P (dispatch_request calls s events read).status
-requested_status P of bad calls s events None = bad
-requested_status P of bad calls s events (Some what) = performed_status P of calls s events what
+requested_status P of noise bad calls s events None = bad
+requested_status P of noise bad calls s events (Some what) = performed_status P of calls s events what (λ is. noise)
 
-choice_status : {V : Type 0} (P : Status → Type 0) → OfServices P → P status.NotInState → P status.BadBody → (calls : Calls V) (s : MachineState V) (events : List Sample) (allowed : Bool)
+choice_status : {V : Type 0} (P : Status → Type 0) → OfServices P → P status.NoiseFault → P status.NotInState → P status.BadBody → (calls : Calls V) (s : MachineState V) (events : List Sample) (allowed : Bool)
     (read : Option RequestValue) → P (if allowed then dispatch_request calls s events read else refused s status.NotInState events).status
-choice_status P of barred bad calls s events true read = requested_status P of bad calls s events read
-choice_status P of barred bad calls s events false read = barred
+choice_status P of noise barred bad calls s events true read = requested_status P of noise bad calls s events read
+choice_status P of noise barred bad calls s events false read = barred
 
 -- so it holds of the status of each command in its order, where it holds of the refusals that come first
-pub dispatched_status : {V : Type 0} (P : Status → Type 0) → OfServices P → P status.UnknownService → P status.NotInState → P status.BadBody
+pub dispatched_status : {V : Type 0} (P : Status → Type 0) → OfServices P → P status.NoiseFault → P status.UnknownService → P status.NotInState → P status.BadBody
     → (calls : Calls V) (s : MachineState V) (events : List Sample) (found : Option Service) (body : List ℕ) → P (dispatch calls s events found body).status
-dispatched_status P of unknown barred bad calls s events None body = unknown
-dispatched_status P of unknown barred bad calls s events (Some found) body =
-    choice_status P of barred bad calls s events (is_permitted found (state_of s)) (request_of found body)
+dispatched_status P of noise unknown barred bad calls s events None body = unknown
+dispatched_status P of noise unknown barred bad calls s events (Some found) body =
+    choice_status P of noise barred bad calls s events (is_permitted found (state_of s)) (request_of found body)
 
--- no command meets a fault of noise, since none takes a sample yet
-pub no_noise_fault : {V : Type 0} (calls : Calls V) (s : MachineState V) (events : List Sample) (command : CommandFrame) → (step calls s events command).status ≢ status.NoiseFault
-no_noise_fault {V} calls s events command =
-    let Other : Stepped V → Type 0 = λ after. after.status ≢ status.NoiseFault in
-    let in_order : (t : MachineState V) → (dispatch calls t events (service_numbered command.service) command.body).status ≢ status.NoiseFault =
-    λ t. dispatched_status (λ why. why ≢ status.NoiseFault) of_no_noise (λ e. cc) (λ e. cc) (λ e. cc) calls t events (service_numbered command.service) command.body in
-    by_order calls s events command Other (λ _. in_order s) (λ number _ _. in_order (with_public s (sequence_taken s.shared.public))) (λ number _ _ e. cc)
-
--- nor is a command that comes in its order answered as one that doesn't
+-- a command that comes in its order isn't answered as one that doesn't
 fault_is_in_order : (why : SlotFault) → fault_status why ≢ status.OutOfOrder
 fault_is_in_order fault.EmptySlot = λ e. cc
 fault_is_in_order fault.WrongKind = λ e. cc
@@ -190,7 +180,7 @@ of_order : OfServices (λ why. why ≢ status.OutOfOrder)
 of_order = record { ok = λ e. cc; test_failed = λ e. cc; bad_length = λ e. cc; check_failed = λ e. cc; auth_failed = λ e. cc; by_slot = fault_is_in_order }
 
 pub dispatched_in_order : {V : Type 0} (calls : Calls V) (s : MachineState V) (events : List Sample) (found : Option Service) (body : List ℕ) → (dispatch calls s events found body).status ≢ status.OutOfOrder
-dispatched_in_order calls s events found body = dispatched_status (λ why. why ≢ status.OutOfOrder) of_order (λ e. cc) (λ e. cc) (λ e. cc) calls s events found body
+dispatched_in_order calls s events found body = dispatched_status (λ why. why ≢ status.OutOfOrder) of_order (λ e. cc) (λ e. cc) (λ e. cc) (λ e. cc) calls s events found body
 
 -- a request for a cryptographic service is one
 pub cryptographic_request : (what : RequestValue) → is_cryptographic (service_for what) ≡ true → IsInRange what

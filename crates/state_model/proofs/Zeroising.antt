@@ -30,12 +30,13 @@ use Rattle.state_model.specs.Commit.{unless, commit_at, check_value, entered}
 use Rattle.state_model.specs.Entries.{with_piece, entry_length}
 use Rattle.state_model.specs.MachineState.{MachineState, state_of, vault_of, no_slots}
 use Rattle.state_model.specs.Management.{Stepped, refused, done, committed, zeroise, with_public, with_tested, after_test, test_step}
-use Rattle.state_model.specs.SelfTesting.{Tested, test_due, test_for, due_at_first_use}
+use Rattle.state_model.specs.SelfTesting.{Tested, test_for, due_at_first_use}
 use Rattle.state_model.specs.Cryptographic.{service_at, ready_after, served, cryptographic_step}
 use Rattle.state_model.specs.Step.{dispatch, dispatch_request, perform, request_at, number_taken}
 use Rattle.state_model.specs.Laws.{ZeroisingEmptiesAll, ZeroisingEmptiesOne, IsRefusedAtOnce, RefusalsChangeNothing, IsRefusedBySlot, RefusalsChangeNoSlot}
 use Rattle.state_model.proofs.Sequences.{by_order}
 use Rattle.state_model.proofs.Testing.{tested_by}
+use Rattle.state_model.proofs.TestSteps.{test_step_by}
 use Rattle.state_model.proofs.Statuses.{OfServices, performed_status}
 
 -- slot and row with a number are empty
@@ -145,7 +146,7 @@ Unchanged s events after = (after.machine ≡ s) × (after.left ≡ events) × (
 requested_unchanged : {V : Type 0} (calls : Calls V) (s : MachineState V) (events : List Sample) (read : Option RequestValue) → IsRefusedAtOnce (dispatch_request calls s events read).status
     → Unchanged s events (dispatch_request calls s events read)
 requested_unchanged calls s events None which = (refl, refl, refl)
-requested_unchanged calls s events (Some what) which = absurd (performed_status (λ why. IsRefusedAtOnce why → ⊥) never_at_once calls s events what which)
+requested_unchanged calls s events (Some what) which = absurd (performed_status (λ why. IsRefusedAtOnce why → ⊥) never_at_once calls s events what (λ is. not_at_once status.NoiseFault (λ e. cc) (λ e. cc) (λ e. cc)) which)
 
 choice_unchanged : {V : Type 0} (calls : Calls V) (s : MachineState V) (events : List Sample) (allowed : Bool) (read : Option RequestValue)
     → (let after : Stepped V = if allowed then dispatch_request calls s events read else refused s status.NotInState events in IsRefusedAtOnce after.status → Unchanged s events after)
@@ -228,8 +229,8 @@ committed_stays calls s (Some target) check which =
 
 test_stays : {V : Type 0} (calls : Calls V) (s : MachineState V) (events : List Sample) → (test_step calls s events).machine.slots ≡ s.slots
 test_stays {V} calls s events =
-    let Stays : Tested V → Type 0 = λ t. (after_test s (with_tested s.shared t) t.judgement.refused events).machine.slots ≡ s.slots in
-    tested_by calls s.shared.engine s.shared.public s.shared.tests_passed Stays (λ more engine includes. refl) (λ t engine. refl) (test_due s.shared.public.tests_done)
+    let Stays : Stepped V → Type 0 = λ after. after.machine.slots ≡ s.slots in
+    test_step_by calls s events Stays (λ tests engine generator samples left. refl) (λ why tests engine generator samples left. refl) (λ why tests engine generator samples left. refl)
 
 cryptographic_stays : {V : Type 0} (calls : Calls V) (s : MachineState V) (events : List Sample) (what : CryptographicRequest) → IsRefusedBySlot (cryptographic_step calls s events what).status
     → (cryptographic_step calls s events what).machine.slots ≡ s.slots

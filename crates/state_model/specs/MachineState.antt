@@ -1,6 +1,8 @@
 -- What the machine keeps, by who may ever depend on a key; and the rules of it, which are this project's own.
 use Rattle.std.specs.Prelude.{◌≡◌, ◌≢◌, ◌≤◌, ◌<◌, ◌^◌, ℕ, List, [], replicate, take, None, true}
 use Rattle.bits_core.specs.ByteList.{zeros}
+use Rattle.drbg_core.specs.declared.generator.Drbg.{Drbg}
+use Rattle.drbg_core.specs.Generator as drbg
 use Rattle.noise_health.specs.Signals.{health_signal}
 use Rattle.self_tests.specs.declared.numbers.Test.TheVariants as test
 use Rattle.self_tests.specs.TestSet.{has_test}
@@ -17,13 +19,16 @@ use Rattle.state_model.specs.declared.entry.Entry.{Entry}
 use Rattle.state_model.specs.Entries.{no_entry, IsUnderway}
 
 -- All that no key ever reaches where the engine is standard: what everyone may see, the tests that passed (test i is the bit of value
--- 2^i), the engine, the samples of noise since power came or since the last Reset, and the rows, which say from which slots the
--- parameter of each slot was made.
+-- 2^i), the engine, the samples of noise since power came or since the last Reset, the generator of random bits, the program's image and
+-- its digest, and the rows, which say from which slots the parameter of each slot was made.
 pub record Shared (V : Type 0) : Type 0 where
   pub public : PublicState
   pub tests_passed : ℕ
   pub engine : V
   pub samples : List ℕ
+  pub generator : Drbg
+  pub image : List ℕ
+  pub digest : List ℕ
   pub ancestry : List ℕ
 
 -- beside it the slots, and the parameter that is being entered
@@ -40,10 +45,22 @@ no_slots = replicate 16 empty_slot
 abbrev pub no_ancestry : List ℕ
 no_ancestry = zeros 16
 
--- not powered, the sequence number 1 expected, and all else zero or empty
-abbrev pub initial_state : {V : Type 0} → V → MachineState V
-initial_state engine =
-    record { shared = record { public = unpowered; tests_passed = 0; engine = engine; samples = []; ancestry = no_ancestry }; slots = no_slots; entry = no_entry }
+-- with this engine, image and digest: not powered, the sequence number 1 expected, and all else zero or empty
+abbrev pub initial_state : {V : Type 0} → V → (image digest : List ℕ) → MachineState V
+initial_state engine image digest = record {
+  shared = record {
+    public = unpowered;
+    tests_passed = 0;
+    engine = engine;
+    samples = [];
+    generator = drbg.empty;
+    image = image;
+    digest = digest;
+    ancestry = no_ancestry;
+  };
+  slots = no_slots;
+  entry = no_entry;
+}
 
 abbrev pub state_of : {V : Type 0} → MachineState V → State
 state_of s = s.shared.public.state
@@ -84,21 +101,23 @@ IsFailure failure.Proportion = Unit {0}
 abbrev pub IsFailureCode : ℕ → Type 0
 IsFailureCode code = (why : Failure) × IsFailure why × (code ≡ failure_code why)
 
--- HMAC-SHA-256 has passed its test, and so has the generator
-pub record HavePassed (tests_passed : ℕ) : Type 0 where
-  pub mac : has_test tests_passed test.HmacSha256 ≡ true
-  pub generator : has_test tests_passed test.Generator ≡ true
+-- HMAC-SHA-256 has passed its test, and so has the generator; and that was seeded, and has answered no more requests than one seed allows
+pub record HavePassed (tests_passed : ℕ) (generator : Drbg) : Type 0 where
+  pub mac_passed : has_test tests_passed test.HmacSha256 ≡ true
+  pub generator_passed : has_test tests_passed test.Generator ≡ true
+  pub seeded : 1 ≤ generator.counter
+  pub requests : generator.counter ≤ 1025
 
--- the tests that have passed in each state: while tests are due, the first once it was done; in every state of use both
-abbrev pub ArePassed : State → ℕ → ℕ → Type 0
-ArePassed state.Off tests_done tests_passed = Unit {0}
-ArePassed state.Init tests_done tests_passed = Unit {0}
-ArePassed state.SelfTest tests_done tests_passed = 1 ≤ tests_done → has_test tests_passed test.HmacSha256 ≡ true
-ArePassed state.Approved tests_done tests_passed = HavePassed tests_passed
-ArePassed state.Officer tests_done tests_passed = HavePassed tests_passed
-ArePassed state.User tests_done tests_passed = HavePassed tests_passed
-ArePassed state.Entry tests_done tests_passed = HavePassed tests_passed
-ArePassed state.Error tests_done tests_passed = Unit {0}
+-- the tests that have passed in each state: while tests are due, the first once it was done; in every state of use both, and the seed
+abbrev pub ArePassed : State → ℕ → ℕ → Drbg → Type 0
+ArePassed state.Off tests_done tests_passed generator = Unit {0}
+ArePassed state.Init tests_done tests_passed generator = Unit {0}
+ArePassed state.SelfTest tests_done tests_passed generator = 1 ≤ tests_done → has_test tests_passed test.HmacSha256 ≡ true
+ArePassed state.Approved tests_done tests_passed generator = HavePassed tests_passed generator
+ArePassed state.Officer tests_done tests_passed generator = HavePassed tests_passed generator
+ArePassed state.User tests_done tests_passed generator = HavePassed tests_passed generator
+ArePassed state.Entry tests_done tests_passed generator = HavePassed tests_passed generator
+ArePassed state.Error tests_done tests_passed generator = Unit {0}
 
 -- the rules of what everyone may see
 pub record IsPublicState (public : PublicState) : Type 0 where
@@ -121,8 +140,8 @@ pub record IsPublicState (public : PublicState) : Type 0 where
 -- the rules
 pub record IsWellFormed {V : Type 0} (s : MachineState V) : Type 0 where
   pub public : IsPublicState s.shared.public
-  -- no state of use without the tests that lead to it
-  pub passed : ArePassed (state_of s) s.shared.public.tests_done s.shared.tests_passed
+  -- no state of use without the tests and the seed that lead to it
+  pub passed : ArePassed (state_of s) s.shared.public.tests_done s.shared.tests_passed s.shared.generator
   -- the noise was healthy, but where that failed
   pub healthy : state_of s ≢ state.Error → AreHealthy s.shared.samples
   -- each slot is empty, and zero then, or holds a parameter that fits; and there are sixteen rows, each a set of slots

@@ -1,6 +1,7 @@
 -- What the services do that are no cryptographic ones. These rules are this project's own; ISO/IEC 19790:2012, 7.4.3 and 7.9.7, ask for
 -- such services.
 use Rattle.std.specs.Prelude.{ℕ, ◌+◌, nat_le, List, [], Option, Some, None, length, if◌then◌else◌}
+use Rattle.drbg_core.specs.Generator as drbg
 use Rattle.service_table.specs.declared.status.Status.{Status}
 use Rattle.service_table.specs.declared.status.Status.TheVariants as status
 use Rattle.module_frames.specs.declared.public_state.PublicState.{PublicState}
@@ -10,12 +11,14 @@ use Rattle.ssp_slots.specs.declared.slot.Slot.{Slot}
 use Rattle.ssp_slots.specs.Slots.{zeroised_in, zeroised_all}
 use Rattle.outside.specs.declared.traits.Sample.{Sample}
 use Rattle.engine_core.specs.Calls.{Calls}
+use Rattle.random_bits.specs.Draws.{Drawn}
 use Rattle.crypto_services.specs.AtSlots.{SlotsResult, on_slot, on_no_slot, refusal}
 use Rattle.state_model.specs.declared.entry.Entry.{Entry}
 use Rattle.state_model.specs.declared.entry.Target.{Target}
 use Rattle.state_model.specs.Entries.{no_entry, begun_entry, with_piece, entry_length}
 use Rattle.state_model.specs.Commit.{commit_at, entered}
-use Rattle.state_model.specs.SelfTesting.{Tested, tested, test_due}
+use Rattle.state_model.specs.declared.self_testing.Judgement.{Judgement}
+use Rattle.state_model.specs.SelfTesting.{Tested, step_tested, is_seed_due, seeded_when, noise_judgement}
 use Rattle.state_model.specs.MachineState.{Shared, MachineState, no_slots, no_ancestry, vault_of, with_vault}
 
 -- what a step leaves, the events of noise that are left among it, and what it answers
@@ -53,6 +56,11 @@ power_on s period = with_public s (powered_on period s.shared.public)
 abbrev pub request_tests : {V : Type 0} → MachineState V → MachineState V
 request_tests s = record s { shared = tests_forgotten s.shared (tests_requested s.shared.public) }
 
+-- what tests, their judgement and a seed leave of all that no key reaches
+abbrev pub with_seeded : {V : Type 0} → Shared V → Judgement → Drawn V → Shared V
+with_seeded shared judged seed =
+    record shared { public = judged.public; tests_passed = judged.tests_passed; engine = seed.engine; generator = seed.generator; samples = seed.samples }
+
 -- what tests and their judgement leave of all that no key reaches
 abbrev pub with_tested : {V : Type 0} → Shared V → Tested V → Shared V
 with_tested shared tests = record shared { public = tests.judgement.public; tests_passed = tests.judgement.tests_passed; engine = tests.engine }
@@ -62,19 +70,22 @@ abbrev pub after_test : {V : Type 0} → MachineState V → Shared V → Option 
 after_test s shared None events = done (record s { shared = record shared { public = test_done shared.public } }) no_block events
 after_test s shared (Some why) events = answered (record s { shared = shared }) why no_block events
 
--- TestStep: the test that is due is made
+-- TestStep: the test that is due is made, and after the last one the generator is seeded
 abbrev pub test_step : {V : Type 0} → Calls V → MachineState V → List Sample → Stepped V
 test_step calls s events =
-    let tests = tested calls s.shared.engine s.shared.public s.shared.tests_passed (test_due s.shared.public.tests_done) in
-    after_test s (with_tested s.shared tests) tests.judgement.refused events
+    let tests = step_tested calls s.shared.engine s.shared.public s.shared.tests_passed s.shared.image s.shared.digest in
+    let seed = seeded_when calls tests.engine s.shared.generator s.shared.samples events (is_seed_due tests.judgement.public tests.judgement.refused) in
+    let judged = noise_judgement tests.judgement seed.failure in
+    after_test s (with_seeded s.shared judged seed) judged.refused seed.left
 
 -- SelectRole
 abbrev pub select_role : {V : Type 0} → MachineState V → ℕ → MachineState V
 select_role s role = with_public s (role_selected role s.shared.public)
 
--- Reset: all slots and rows are empty, nothing is entered, and no test or sample counts any more; the period and the engine stay
+-- Reset: all slots and rows are empty, nothing is entered, the generator has no seed, and no test or sample counts any more; period, engine,
+-- image and digest stay
 abbrev pub reset : {V : Type 0} → MachineState V → MachineState V
-reset s = record { shared = record (tests_forgotten s.shared (was_reset s.shared.public)) { samples = []; ancestry = no_ancestry }; slots = no_slots; entry = no_entry }
+reset s = record { shared = record (tests_forgotten s.shared (was_reset s.shared.public)) { samples = []; generator = drbg.empty; ancestry = no_ancestry }; slots = no_slots; entry = no_entry }
 
 -- EntryBegin: a parameter is entered for this target. The slot isn't looked at.
 abbrev pub entry_begin : {V : Type 0} → MachineState V → Target → MachineState V

@@ -9,6 +9,9 @@ view_of m = record {
   tests_passed = m.tests_passed;
   engine = m.parts.engine;
   health = m.parts.health;
+  generator = m.parts.drbg;
+  image = m.image.items;
+  digest = m.digest;
   vault = m.parts.vault;
   entry = m.entry;
 }

@@ -1,5 +1,6 @@
 -- What the fields of a module show: counters where the machine keeps the samples of noise that they count.
-use Rattle.std.specs.Prelude.{ℕ}
+use Rattle.std.specs.Prelude.{ℕ, List}
+use Rattle.drbg_core.specs.declared.generator.Drbg.{Drbg}
 use Rattle.noise_health.specs.declared.health.Health.{Health}
 use Rattle.ssp_slots.specs.Slots.{Contents}
 use Rattle.module_frames.specs.declared.public_state.PublicState.{PublicState}
@@ -10,5 +11,8 @@ pub record ModuleView (V : Type 0) : Type 0 where
   pub tests_passed : ℕ
   pub engine : V
   pub health : Health
+  pub generator : Drbg
+  pub image : List ℕ
+  pub digest : List ℕ
   pub vault : Contents
   pub entry : Entry

@@ -14,7 +14,16 @@ use Rattle.state_model.specs.Step.{reply_to}
 -- the machine that a module is, with the samples that its counters count
 abbrev pub machine_of : {V : Type 0} → ModuleView V → List ℕ → MachineState V
 machine_of m samples = record {
-  shared = record { public = m.public; tests_passed = m.tests_passed; engine = m.engine; samples = samples; ancestry = m.vault.rows };
+  shared = record {
+    public = m.public;
+    tests_passed = m.tests_passed;
+    engine = m.engine;
+    samples = samples;
+    generator = m.generator;
+    image = m.image;
+    digest = m.digest;
+    ancestry = m.vault.rows;
+  };
   slots = m.vault.slots;
   entry = m.entry;
 }

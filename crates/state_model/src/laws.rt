@@ -1,4 +1,5 @@
 // Laws of the machine, each the contract of a function without a body.
+ghost use Rattle.std.specs.Prelude.{ℕ, List};
 ghost use Rattle.state_model.specs.MachineState.{IsWellFormed, initial_state};
 ghost use Rattle.state_model.specs.Laws.{StepsKeepTheRules, DataNeedsARole, ZeroisingEmptiesAll, ZeroisingEmptiesOne, RefusalsChangeNothing, RefusalsChangeNoSlot, OutOfOrderByTheNumber, OutOfOrderChangesNothing, NumbersAreTaken};
 
@@ -6,7 +7,7 @@ use engine_core::Engine;
 
 /// The machine begins by its rules, and a step for any command keeps them, with any engine and noise.
 pub fn steps_keep_the_rules<E: Engine>()
-    ensures begins { (engine : E) → IsWellFormed (initial_state engine) }
+    ensures begins { (engine : E) (image digest : List ℕ) → IsWellFormed (initial_state engine image digest) }
     ensures keeps { StepsKeepTheRules E.calls }
 {}
 

@@ -5,7 +5,7 @@ ghost use Rattle.service_table.specs.Numbers.{service_numbered};
 ghost use Rattle.outside.specs.declared.traits.Sample.{Sample};
 ghost use Rattle.outside.specs.Explained.{Explained};
 ghost use Rattle.outside.specs.Faults.{FaultCounted};
-ghost use Rattle.module_frames.specs.Requests.{CryptographicRequest, Cryptographic, request_value, service_for, IsInRange, IsCryptographicInRange};
+ghost use Rattle.module_frames.specs.Requests.{CryptographicRequest, Cryptographic, TestStep, request_value, service_for, IsInRange, IsCryptographicInRange};
 ghost use Rattle.module_frames.specs.PublicState.{status_block, sequence_block, no_block};
 ghost use Rattle.module_frames.specs.PublicEffects.{is_period_over, sent_to_tests};
 ghost use Rattle.bits_core.specs.Parameters.{length_fits};
@@ -24,7 +24,7 @@ ghost use Rattle.state_model.specs.Represents.{Represents, IsRepresented, IsServ
 use crate::commit::commit;
 use crate::cryptographic::run_cryptographic_service;
 use crate::entry::{Entry, Target};
-use crate::self_testing::{due_at_first_use, run_test, test_due, test_for};
+use crate::self_testing::{due_at_first_use, run_step_test, run_test, seed_when_due, test_for};
 use bits_core::{Header, Outbox, SlotId};
 use crypto_services::{Outcome, Parts};
 use engine_core::Engine;
@@ -43,6 +43,8 @@ pub struct Module<E: Engine> {
     tests_passed: Tested,
     parts: Parts<E>,
     entry: Entry,
+    image: Vec<u8>,
+    digest: [u8; 32],
 }
 
 impl<E: Engine> Model for Module<E> {
@@ -115,9 +117,15 @@ fn settled(public: PublicState, tests_passed: Tested) -> (PublicState, Tested)
 }
 
 impl<E: Engine> Module<E> {
-    /// A module that isn't powered, with sixteen empty slots.
-    pub fn open(alloc: Global, engine: E) -> Result<Module<E>, AllocError>
-        ensures { IfOk result (λ opened. Represents opened (initial_state engine)) }
+    /// A module that isn't powered, with sixteen empty slots. The image is the one that its self-tests check, and the digest is the
+    /// image's HMAC-SHA-256 under the image key.
+    pub fn open(
+        alloc: Global,
+        engine: E,
+        image: Vec<u8>,
+        digest: [u8; 32],
+    ) -> Result<Module<E>, AllocError>
+        ensures { IfOk result (λ opened. Represents opened (initial_state engine image.items digest)) }
     {
         let parts = Parts::new(alloc, engine)?;
         Ok(Module {
@@ -125,6 +133,8 @@ impl<E: Engine> Module<E> {
             tests_passed: Tested::empty(),
             parts,
             entry: Entry::empty(),
+            image,
+            digest,
         })
     }
 
@@ -154,18 +164,25 @@ impl<E: Engine> Module<E> {
         self.tests_passed = Tested::empty();
     }
 
-    // TestStep: the test that is due is made.
-    fn test_step(&mut self) -> Status
+    // TestStep: the test that is due is made, and after the last one the generator is seeded.
+    fn test_step<N: Noise>(&mut self, noise: &mut N) -> Status
         requires { self.old.public.state ≡ State.SelfTest }
-        ensures { (s : MachineState E) (events : List Sample) → Represents self.old s →
-            IsServiceResult (test_step E.calls s events) self.new result no_block [] }
+        ensures answer { Explained (N.left noise.old) (N.left noise.new) (λ events left. (s : MachineState E) → Represents self.old s →
+            let after = test_step E.calls s events in IsServiceResult after self.new result no_block [] × (after.left ≡ left)) }
+        ensures noise_failed { result ≡ Status.NoiseFault → self.new.public.error_code ≡ 0x0400 → FaultCounted (N.faults noise.old) (N.faults noise.new) }
     {
         let tests_passed = self.tests_passed;
-        let due = test_due(self.public.tests_done);
-        let judged = run_test(&mut self.parts.engine, self.public, tests_passed, due);
-        let (public, status) = after_test(judged.public, judged.refused);
+        let judged = run_step_test(
+            &mut self.parts.engine,
+            self.public,
+            tests_passed,
+            &self.image,
+            &self.digest,
+        );
+        let seeded = seed_when_due(&mut self.parts, noise, judged);
+        let (public, status) = after_test(seeded.public, seeded.refused);
         self.public = public;
-        self.tests_passed = judged.tests_passed;
+        self.tests_passed = seeded.tests_passed;
         status
     }
 
@@ -177,13 +194,14 @@ impl<E: Engine> Module<E> {
         self.public = self.public.role_selected(role);
     }
 
-    // Reset: all slots and rows are empty, nothing is entered, and no test or sample counts any more.
+    // Reset: all slots and rows are empty, nothing is entered, the generator has no seed, and no test or sample counts any more.
     fn reset(&mut self)
         ensures { (s : MachineState E) → Represents self.old s → Represents self.new (reset s) }
     {
         self.public = self.public.was_reset();
         self.tests_passed = Tested::empty();
         self.parts.vault.zeroise_all();
+        self.parts.drbg.wipe();
         self.parts.health = Health::new();
         self.entry.clear();
     }
@@ -299,18 +317,18 @@ impl<E: Engine> Module<E> {
         outcome
     }
 
-    // Does any other service, and fills the block.
+    // Does any service that is no cryptographic one, but TestStep, and fills the block.
     fn run_management_service(&mut self, request: Request<'_>, block: &mut [u8; 12]) -> Status
         requires block { block.old ≡ no_block }
         requires in_range { IsInRange (request_value request) }
         requires other { is_cryptographic (service_for (request_value request)) ≡ false }
+        requires no_noise { request_value request ≢ TestStep }
         requires permitted { IsPermittedIn (request_value request) self.old.public.state }
         ensures answer { (s : MachineState E) (events : List Sample) → Represents self.old s →
             IsServiceResult (perform E.calls s events (request_value request.entry)) self.new result block.new [] }
     {
         match request {
             Request::PowerOn { period } => self.power_on(period),
-            Request::TestStep => return self.test_step(),
             Request::RequestTests => self.request_tests(),
             Request::ShowStatus => self.show_status(block),
             Request::ShowVersion => *block = VERSION,
@@ -331,7 +349,10 @@ impl<E: Engine> Module<E> {
             Request::Zeroise { slot } => self.zeroise(slot),
             Request::ZeroiseAll => self.zeroise_all(),
             Request::ShowSlot { slot } => self.show_slot(slot, block),
-            Request::Hash { .. } | Request::Mac { .. } | Request::MacVerify { .. } => {
+            Request::TestStep
+            | Request::Hash { .. }
+            | Request::Mac { .. }
+            | Request::MacVerify { .. } => {
                 unreachable!()
             }
         }
@@ -355,12 +376,19 @@ impl<E: Engine> Module<E> {
     }
 
     // Refuses a command that comes out of its order, and dispatches any other.
-    fn step(&mut self, command: &Command, block: &mut [u8; 12], payload: &mut Outbox) -> Outcome
+    fn step<N: Noise>(
+        &mut self,
+        command: &Command,
+        noise: &mut N,
+        block: &mut [u8; 12],
+        payload: &mut Outbox,
+    ) -> Outcome
         requires block { block.old ≡ no_block }
         requires payload { payload.old ≡ holding [] LARGEST_PAYLOAD }
-        ensures answer { (s : MachineState E) (events : List Sample) → Represents self.old s →
+        ensures answer { Explained (N.left noise.old) (N.left noise.new) (λ events left. (s : MachineState E) → Represents self.old s →
             let after = step E.calls s events command.now in
-            IsServiceResult after self.new result.status block.new payload.new.bytes × (after.left ≡ events) }
+            IsServiceResult after self.new result.status block.new payload.new.bytes × (after.left ≡ left)) }
+        ensures noise_failed { result.status ≡ Status.NoiseFault → self.new.public.error_code ≡ 0x0400 → FaultCounted (N.faults noise.old) (N.faults noise.new) }
         ensures approved { result.approved ≡ indicated (request_at (service_numbered command.now.service) command.now.body) result.status self.new.vault.slots }
         ensures room { payload.new.room ≡ LARGEST_PAYLOAD }
     {
@@ -368,16 +396,23 @@ impl<E: Engine> Module<E> {
             *block = self.public.sequence_block();
             return management_outcome(Status::OutOfOrder);
         }
-        self.dispatch(command, block, payload)
+        self.dispatch(command, noise, block, payload)
     }
 
     // Walks the order of refusals, and does what is asked where the command passes.
-    fn dispatch(&mut self, command: &Command, block: &mut [u8; 12], payload: &mut Outbox) -> Outcome
+    fn dispatch<N: Noise>(
+        &mut self,
+        command: &Command,
+        noise: &mut N,
+        block: &mut [u8; 12],
+        payload: &mut Outbox,
+    ) -> Outcome
         requires block { block.old ≡ no_block }
         requires payload { payload.old ≡ holding [] LARGEST_PAYLOAD }
-        ensures answer { (s : MachineState E) (events : List Sample) → Represents self.old s →
+        ensures answer { Explained (N.left noise.old) (N.left noise.new) (λ events left. (s : MachineState E) → Represents self.old s →
             let after = dispatch E.calls s events (service_numbered command.now.service) command.now.body in
-            IsServiceResult after self.new result.status block.new payload.new.bytes × (after.left ≡ events) }
+            IsServiceResult after self.new result.status block.new payload.new.bytes × (after.left ≡ left)) }
+        ensures noise_failed { result.status ≡ Status.NoiseFault → self.new.public.error_code ≡ 0x0400 → FaultCounted (N.faults noise.old) (N.faults noise.new) }
         ensures approved { result.approved ≡ indicated (request_at (service_numbered command.now.service) command.now.body) result.status self.new.vault.slots }
         ensures room { payload.new.room ≡ LARGEST_PAYLOAD }
     {
@@ -393,6 +428,9 @@ impl<E: Engine> Module<E> {
         if is_cryptographic(service) {
             return self.run_cryptographic_service(&request, payload);
         }
+        if service == Service::TestStep {
+            return management_outcome(self.test_step(noise));
+        }
         management_outcome(self.run_management_service(request, block))
     }
 
@@ -403,13 +441,14 @@ impl<E: Engine> Module<E> {
         // that explain them.
         ensures step { Explained (N.left noise.old) (N.left noise.new) (λ events left. (s : MachineState E) → Represents self.old s →
             let after = step E.calls s events command.now in Replies command.now after self.new reply.new × (after.left ≡ left)) }
-        ensures noise_failed { reply.new.status ≡ Status.NoiseFault → FaultCounted (N.faults noise.old) (N.faults noise.new) }
+        // That the noise failed is told only where its count of faults rose.
+        ensures noise_failed { reply.new.status ≡ Status.NoiseFault → reply.new.code ≡ 0x0400 → FaultCounted (N.faults noise.old) (N.faults noise.new) }
         ensures represented { IsRepresented self.new }
     {
         // Opened, so that the module's rules are known of what it finds.
         let _ = &self.public;
         reply.clear();
-        let outcome = self.step(command, &mut reply.block, &mut reply.payload);
+        let outcome = self.step(command, noise, &mut reply.block, &mut reply.payload);
         let number = command.sequence();
         reply.service = command.service();
         reply.sequence = number;
@@ -429,7 +468,7 @@ mod tests {
 
     #[test]
     fn opens_and_answers(rt: HostRuntime) -> Result<(), Fail> {
-        let mut module = Module::open(rt.alloc(), Shipped::new())?;
+        let mut module = Module::open(rt.alloc(), Shipped::new(), Vec::new(rt.alloc()), [0; 32])?;
         let mut noise = MemNoise::new(Vec::new(rt.alloc()));
         let mut command = Command::new(rt.alloc())?;
         let mut reply = Reply::new(rt.alloc())?;

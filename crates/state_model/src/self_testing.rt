@@ -1,11 +1,16 @@
 // The self-tests of the machine.
-ghost use Rattle.std.specs.Prelude.{◌≡◌, ◌<◌};
+ghost use Rattle.std.specs.Prelude.{◌≡◌, ◌≢◌, ◌<◌, ℕ, List, Some};
+ghost use Rattle.noise_health.specs.Counts.{Counts};
+ghost use Rattle.outside.specs.Explained.{Explained};
+ghost use Rattle.outside.specs.Faults.{FaultCounted};
 ghost use Rattle.module_frames.specs.Requests.{CryptographicRequest, Cryptographic, request_value};
-ghost use Rattle.state_model.specs.SelfTesting.{judgement, tested, test_due, test_for, due_at_first_use};
+ghost use Rattle.state_model.specs.SelfTesting.{judgement, tested, image_judgement, step_tested, is_seed_due, seeded_when, IsSeeded, test_for, due_at_first_use};
 
+use crypto_services::{Parts, seed};
 use engine_core::Engine;
 use module_frames::{PublicState, Request};
-use self_tests::{Test, Tested, known_answer};
+use outside::Noise;
+use self_tests::{Test, Tested, integrity, known_answer};
 use service_table::{Failure, Service, Status, test_of};
 
 /// What a test leaves of the public state and of the tests that passed, and why the command is refused, where it is.
@@ -62,14 +67,76 @@ pub fn run_test<E: Engine>(
     }
 }
 
-/// The test that TestStep makes when so many of the three were done: HMAC-SHA-256; none yet; the generator.
-pub fn test_due(tests_done: u8) -> Option<Test>
-    ensures { result ≡ test_due tests_done }
+// An image that has its digest changes nothing; else the state is Error.
+fn judge_image(public: PublicState, tests_passed: Tested, right: bool) -> Judgement
+    ensures { result ≡ image_judgement public tests_passed right }
 {
-    match tests_done {
-        0 => Some(Test::HmacSha256),
-        1 => None,
-        _ => Some(Test::Generator),
+    if right {
+        return Judgement {
+            public,
+            tests_passed,
+            refused: None,
+        };
+    }
+    Judgement {
+        public: public.has_failed(Failure::Integrity),
+        tests_passed,
+        refused: Some(Status::TestFailed),
+    }
+}
+
+/// Makes the test of TestStep that is due: HMAC-SHA-256; the image, by its digest; the generator.
+pub fn run_step_test<E: Engine>(
+    engine: &mut E,
+    public: PublicState,
+    tests_passed: Tested,
+    image: &[u8],
+    digest: &[u8; 32],
+) -> Judgement
+    ensures judgement { result ≡ (step_tested E.calls engine.old public tests_passed image.now digest.now).judgement }
+    ensures engine { engine.new ≡ (step_tested E.calls engine.old public tests_passed image.now digest.now).engine }
+{
+    match public.tests_done {
+        0 => run_test(engine, public, tests_passed, Some(Test::HmacSha256)),
+        1 => judge_image(public, tests_passed, integrity(engine, image, digest)),
+        _ => run_test(engine, public, tests_passed, Some(Test::Generator)),
+    }
+}
+
+// Whether a seed is due: after the last of the three tests, where that passed.
+fn is_seed_due(judged: &Judgement) -> bool
+    ensures { result ≡ is_seed_due judged.now.public judged.now.refused }
+{
+    match judged.refused {
+        None => judged.public.tests_done >= 2,
+        Some(_) => false,
+    }
+}
+
+/// Seeds the generator anew after the last of the three tests, where that passed. Where the noise fails the state is Error.
+pub fn seed_when_due<E: Engine, N: Noise>(
+    parts: &mut Parts<E>,
+    noise: &mut N,
+    judged: Judgement,
+) -> Judgement
+    requires counts { (samples : List ℕ) × Counts parts.old.health samples }
+    requires tested { judged.refused ≢ Some Status.NoiseFault }
+    ensures seeded { Explained (N.left noise.old) (N.left noise.new) (λ events left. (samples : List ℕ) → Counts parts.old.health samples →
+        IsSeeded (seeded_when E.calls parts.old.engine parts.old.drbg samples events (is_seed_due judged.public judged.refused)) judged
+            parts.new.engine parts.new.drbg parts.new.health result left) }
+    ensures vault { parts.new.vault ≡ parts.old.vault }
+    ensures noise_failed { result.refused ≡ Some Status.NoiseFault → result.public.error_code ≡ 0x0400 → FaultCounted (N.faults noise.old) (N.faults noise.new) }
+{
+    if !is_seed_due(&judged) {
+        return judged;
+    }
+    match seed(parts, noise) {
+        Ok(_) => judged,
+        Err(failure) => Judgement {
+            public: judged.public.has_failed(failure),
+            tests_passed: judged.tests_passed,
+            refused: Some(Status::NoiseFault),
+        },
     }
 }
 

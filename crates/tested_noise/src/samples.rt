@@ -23,8 +23,8 @@ fn failure_of(fault: HealthFault) -> Failure
 /// failed: the noise ended or failed, or the sample shows a fault. After a failure only a new `Health` may be used.
 pub fn take_sample<N: Noise>(health: &mut Health, noise: &mut N) -> Result<u8, Failure>
     requires counts { (samples : List ℕ) × Counts health.old samples }
-    ensures taken { (samples : List ℕ) → Counts health.old samples →
-        Explained (N.left noise.old) (N.left noise.new) (IsSample samples result) }
+    ensures taken { Explained (N.left noise.old) (N.left noise.new)
+        (λ events left. (samples : List ℕ) → Counts health.old samples → IsSample samples result events left) }
     ensures counts { IfOk result (λ byte. (samples : List ℕ) → Counts health.old samples → Counts health.new (samples ++ byte ∷ [])) }
     ensures fault_counted { MatchResult result (λ _. N.faults noise.new ≡ N.faults noise.old)
         (λ why. why ≡ Failure.NoiseFailed → FaultCounted (N.faults noise.old) (N.faults noise.new)) }
@@ -47,8 +47,8 @@ pub fn take_samples<N: Noise>(
     out: &mut [u8],
 ) -> Result<(), Failure>
     requires counts { (samples : List ℕ) × Counts health.old samples }
-    ensures taken { (samples : List ℕ) → Counts health.old samples →
-        Explained (N.left noise.old) (N.left noise.new) (AreSamples samples out.new result) }
+    ensures taken { Explained (N.left noise.old) (N.left noise.new)
+        (λ events left. (samples : List ℕ) → Counts health.old samples → AreSamples samples out.new result events left) }
     ensures counts { OnOk result ((samples : List ℕ) → Counts health.old samples → Counts health.new (samples ++ out.new)) }
     ensures fault_counted { MatchResult result (λ _. N.faults noise.new ≡ N.faults noise.old)
         (λ why. why ≡ Failure.NoiseFailed → FaultCounted (N.faults noise.old) (N.faults noise.new)) }

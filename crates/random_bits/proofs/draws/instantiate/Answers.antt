@@ -6,14 +6,14 @@ use Rattle.random_bits.proofs.Seeds.{instantiated_ok, instantiated_err}
 use Rattle.random_bits.proofs.draws.instantiate.Goals as goal
 
 pub returns-in-Ok-clause-instantiated : goal.returns-in-Ok-clause-instantiated
-returns-in-Ok-clause-instantiated g c samples counts =
-    explained_by _ _ (c.in-Ok.ensures.taken samples counts)
-    (λ events left taken. instantiated_ok g.E.Engine.calls _ _ _ _ _ samples _ events left (c.take_samples.auto.out ∙ c.requires.room) taken (c.in-Ok.ensures.counts samples counts) c.seed_from.ensures.engine c.seed_from.ensures.generator)
+returns-in-Ok-clause-instantiated g c =
+    explained_by _ _ c.in-Ok.ensures.taken
+    (λ events left taken samples counts. instantiated_ok g.E.Engine.calls _ _ _ _ _ samples _ events left (c.take_samples.auto.out ∙ c.requires.room) (taken samples counts) (c.in-Ok.ensures.counts samples counts) c.seed_from.ensures.engine c.seed_from.ensures.generator)
 
 pub returns-in-Err-clause-instantiated : goal.returns-in-Err-clause-instantiated
-returns-in-Err-clause-instantiated g c samples counts =
-    explained_by _ _ (c.in-Err.ensures.taken samples counts)
-    (λ events left failed. instantiated_err g.E.Engine.calls _ _ _ c.in-Err.failure samples _ events left (c.take_samples.auto.out ∙ c.requires.room) failed)
+returns-in-Err-clause-instantiated g c =
+    explained_by _ _ c.in-Err.ensures.taken
+    (λ events left failed samples counts. instantiated_err g.E.Engine.calls _ _ _ c.in-Err.failure samples _ events left (c.take_samples.auto.out ∙ c.requires.room) (failed samples counts))
 
 pub returns-in-Ok-clause-wiped : goal.returns-in-Ok-clause-wiped
 returns-in-Ok-clause-wiped g c = c.wipe.ensures ∙ ap zeros (c.take_samples.auto.out ∙ c.requires.room)

@@ -6,14 +6,14 @@ use Rattle.random_bits.proofs.Seeds.{reseeded_ok, reseeded_err}
 use Rattle.random_bits.proofs.draws.reseed.Goals as goal
 
 pub returns-in-Ok-clause-reseeded : goal.returns-in-Ok-clause-reseeded
-returns-in-Ok-clause-reseeded g c samples counts =
-    explained_by _ _ (c.in-Ok.ensures.taken samples counts)
-    (λ events left taken. reseeded_ok g.E.Engine.calls _ _ _ _ _ _ samples _ events left (c.take_samples.auto.out ∙ c.requires.room) taken (c.in-Ok.ensures.counts samples counts) c.drbg_reseed.ensures.engine c.drbg_reseed.ensures.drbg)
+returns-in-Ok-clause-reseeded g c =
+    explained_by _ _ c.in-Ok.ensures.taken
+    (λ events left taken samples counts. reseeded_ok g.E.Engine.calls _ _ _ _ _ _ samples _ events left (c.take_samples.auto.out ∙ c.requires.room) (taken samples counts) (c.in-Ok.ensures.counts samples counts) c.drbg_reseed.ensures.engine c.drbg_reseed.ensures.drbg)
 
 pub returns-in-Err-clause-reseeded : goal.returns-in-Err-clause-reseeded
-returns-in-Err-clause-reseeded g c samples counts =
-    explained_by _ _ (c.in-Err.ensures.taken samples counts)
-    (λ events left failed. reseeded_err g.E.Engine.calls _ _ _ c.in-Err.failure _ samples _ events left (c.take_samples.auto.out ∙ c.requires.room) failed)
+returns-in-Err-clause-reseeded g c =
+    explained_by _ _ c.in-Err.ensures.taken
+    (λ events left failed samples counts. reseeded_err g.E.Engine.calls _ _ _ c.in-Err.failure _ samples _ events left (c.take_samples.auto.out ∙ c.requires.room) (failed samples counts))
 
 pub returns-in-Ok-clause-wiped : goal.returns-in-Ok-clause-wiped
 returns-in-Ok-clause-wiped g c = c.wipe.ensures ∙ ap zeros (c.take_samples.auto.out ∙ c.requires.room)

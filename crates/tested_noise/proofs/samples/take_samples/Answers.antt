@@ -9,7 +9,7 @@ use Rattle.tested_noise.proofs.samples.take_samples.Goals as goal
 
 pub loop-place-init : goal.loop-place-init
 loop-place-init g c = record {
-  taken = λ samples counts. explained_none _ _ (λ events. none_taken samples events);
+  taken = explained_none _ _ (λ events samples counts. none_taken samples events);
   counts = λ samples counts. subst (λ xs. Counts c.args.health.now xs) (sym (append-nil samples)) counts;
   faults = refl;
 }
@@ -28,25 +28,28 @@ loop-place-preserved g c =
     let more : take (c.loop-place.place + 1) (slice_set c.loop-place.out c.loop-place.place c.in-Ok.byte) ≡ so_far ++ c.in-Ok.byte ∷ [] =
     take_more_set c.loop-place.out c.loop-place.place c.in-Ok.byte short in
     record {
-      taken = λ samples counts. rw more (explained_both _ _ _ (i.taken samples counts) (c.in-Ok.ensures.taken (samples ++ so_far) (i.counts samples counts))
-          (λ events mid left before last. both_taken samples so_far c.in-Ok.byte events mid left before last));
+      taken = rw more (explained_both _ _ _ i.taken c.in-Ok.ensures.taken (λ events mid left before last samples counts.
+          both_taken samples so_far c.in-Ok.byte events mid left (before samples counts) (last (samples ++ so_far) (i.counts samples counts))));
       counts = λ samples counts. rw more (subst (λ xs. Counts c.take_sample.new.health xs) (append_assoc samples so_far (c.in-Ok.byte ∷ [])) (c.in-Ok.ensures.counts (samples ++ so_far) (i.counts samples counts)));
       faults = c.in-Ok.ensures.fault_counted ∙ i.faults;
     }
 
 pub returns-in-Err-clause-taken : goal.returns-in-Err-clause-taken
-returns-in-Err-clause-taken g c samples counts =
+returns-in-Err-clause-taken g c =
     let i = c.loop-place.invariant in
     let so_far = take c.loop-place.place c.loop-place.out in
     let short : length so_far < length c.loop-place.out = omega (arith, c.loop-place-test.true, c.loop-place.auto.out, length-take-le c.loop-place.place c.loop-place.out) in
-    explained_both _ _ _ (i.taken samples counts) (c.in-Err.ensures.taken (samples ++ so_far) (i.counts samples counts))
-    (λ events mid left before last. fails_within samples so_far (length c.loop-place.out) events mid left c.in-Err.failure short before last)
+    explained_both _ _ _ i.taken c.in-Err.ensures.taken (λ events mid left before last samples counts.
+    fails_within samples so_far (length c.loop-place.out) events mid left c.in-Err.failure short (before samples counts) (last (samples ++ so_far) (i.counts samples counts)))
 
 pub returns-clause-taken : goal.returns-clause-taken
-returns-clause-taken g c samples counts =
+returns-clause-taken g c =
     let i = c.loop-place.invariant in
     let all : take c.loop-place.place c.loop-place.out ≡ c.loop-place.out = take_all c.loop-place.place c.loop-place.out (omega (arith, c.loop-place-test.false, c.loop-place.auto.out)) in
-    subst (λ xs. Explained (g.N.Noise.left c.args.noise.now) (g.N.Noise.left c.loop-place.noise) (AreTaken samples xs)) all (i.taken samples counts)
+    subst
+    (λ xs. Explained (g.N.Noise.left c.args.noise.now) (g.N.Noise.left c.loop-place.noise)
+    (λ events left. (samples : List ℕ) → Counts c.args.health.now samples → AreTaken samples xs events left))
+    all i.taken
 
 pub returns-clause-counts : goal.returns-clause-counts
 returns-clause-counts g c samples counts =

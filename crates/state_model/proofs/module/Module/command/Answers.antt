@@ -1,16 +1,15 @@
 use Rattle.std.proofs.Common.{[], sym, subst, ap, ◌∙◌}
-use Rattle.outside.proofs.Explanations.{explained_none}
+use Rattle.outside.proofs.Explanations.{explained_by}
 use Rattle.state_model.specs.ModuleView.{ModuleView}
 use Rattle.state_model.specs.Represents.{Represents, IsRepresented}
 use Rattle.state_model.specs.Step.{step}
 use Rattle.state_model.proofs.Replying.{replied}
-use Rattle.state_model.proofs.Statuses.{no_noise_fault}
 use Rattle.state_model.proofs.module.Module.command.Goals as goal
 
 pub returns-clause-step : goal.returns-clause-step
 returns-clause-step g c =
-    explained_none _ _ (λ events s represents.
-    let result = c.step-outcome.ensures.answer s events represents in
+    explained_by _ _ c.step-outcome.ensures.answer (λ events left answer s represents.
+    let result = answer s represents in
     let public = ap (λ (m : ModuleView g.row.E.Denot). m.public) c.self-2.view_is in (
       record {
         represents = result.0.represents;
@@ -22,10 +21,8 @@ returns-clause-step g c =
     ))
 
 pub returns-clause-noise_failed : goal.returns-clause-noise_failed
-returns-clause-noise_failed g c fault =
-    let At : ModuleView g.row.E.Denot → Type 0 = λ m. Represents m c.self.invariant.0 in
-    let result = c.step-outcome.ensures.answer c.self.invariant.0 [] (subst At c.self.view_is c.self.invariant.1) in
-    absurd (no_noise_fault g.E.Engine.calls c.self.invariant.0 [] c.args.command.now (sym result.0.same_status ∙ fault))
+returns-clause-noise_failed g c fault code =
+    c.step-outcome.ensures.noise_failed fault (sym (ap (λ (m : ModuleView g.row.E.Denot). m.public.error_code) c.self-2.view_is) ∙ code)
 
 pub returns-clause-represented : goal.returns-clause-represented
 returns-clause-represented g c =

@@ -70,8 +70,8 @@ invariant_of-self-2 g c =
     let settled = rw judged at c.settled-tests_passed.ensures in
     let rules = rules_here held.1 in (
       _,
-      (used_represents g.E.Engine.calls m held.0.shared.samples [] what due rules allowed held.1.counts none parts.engine parts.vault parts.health c.settled-tests_passed.result _ _
-          serves.leaves.engine serves.leaves.vault (c.run_cryptographic_service-outcome.ensures.well_formed rules.slots) serves.leaves.health settled refl refl).represents,
+      (used_represents g.E.Engine.calls m held.0.shared.samples [] what due rules allowed held.1.counts none parts.engine parts.vault parts.health parts.drbg c.settled-tests_passed.result _ _
+          serves.leaves.engine serves.leaves.vault (c.run_cryptographic_service-outcome.ensures.well_formed rules.slots) serves.leaves.health serves.leaves.generator settled refl refl).represents,
     )
 
 pub returns-clause-answer : goal.returns-clause-answer
@@ -96,12 +96,15 @@ returns-clause-answer g c s events what represents is =
       tests_passed = c.settled-tests_passed.result.1;
       engine = parts.engine;
       health = parts.health;
+      generator = parts.drbg;
+      image = m.image;
+      digest = m.digest;
       vault = parts.vault;
       entry = c.self.inside.entry;
     } in
     let there : IsServiceResult (cryptographic_step g.E.Engine.calls t events what) after outcome.status no_block payload =
-    used_represents g.E.Engine.calls m s.shared.samples events what due rules allowed held.counts none parts.engine parts.vault parts.health c.settled-tests_passed.result outcome.status payload
-    serves.leaves.engine serves.leaves.vault (c.run_cryptographic_service-outcome.ensures.well_formed rules.slots) serves.leaves.health settled
+    used_represents g.E.Engine.calls m s.shared.samples events what due rules allowed held.counts none parts.engine parts.vault parts.health parts.drbg c.settled-tests_passed.result outcome.status payload
+    serves.leaves.engine serves.leaves.vault (c.run_cryptographic_service-outcome.ensures.well_formed rules.slots) serves.leaves.health serves.leaves.generator settled
     (ap (λ (o : Outcome). o.status) serves.same_outcome) serves.same_payload in
     let From : MachineState g.row.E.Denot → Type 0 = λ u. IsServiceResult (cryptographic_step g.E.Engine.calls u events what) after outcome.status no_block payload in
     subst From held.same there
