@@ -137,6 +137,7 @@ fn perform<E: Engine, F: Files, S: Source, K: Sink>(
           read_faults = S.faults commands.new;
           write_faults = K.faults replies.new;
         }) }
+    ensures no_file { form_of (map string_bytes words.now) ≡ None → files.new ≡ files.old }
 {
     match form_of(words) {
         None => Err(RunFault::Usage),
@@ -184,8 +185,9 @@ pub fn run<E: Engine, F: Files, S: Source, K: Sink>(
         K.gained replies.old ≡ Some before → result ≢ 5 → result ≢ 6 → result ≢ 7 → result ≢ 8 →
         (out : List ℕ) × IsProgramOutput E.calls engine (map string_bytes words.now) all bytes result out × (K.gained replies.new ≡ Some (before ++ out)) }
 
-    // Words that have no form are a faulty command line, and nothing else is.
+    // Words that have no form are a faulty command line, and nothing else is. No file is looked at then.
     ensures usage { (result ≡ 2) ↔ (form_of (map string_bytes words.now) ≡ None) }
+    ensures no_file { result ≡ 2 → files.new ≡ files.old }
 
     // A run that is refused leaves source and sink as they were, and that of `digest` the source in any case.
     ensures untouched { is_refusal result ≡ true → (commands.new ≡ commands.old) × (replies.new ≡ replies.old) }

@@ -1,4 +1,4 @@
-use Rattle.std.proofs.Common.{◌≡◌, ◌≢◌, ◌++◌, ℕ, List, Option, Some, IfSome, refl, sym, ap, subst}
+use Rattle.std.proofs.Common.{◌≡◌, ◌≢◌, ◌++◌, ℕ, List, Option, Some, IfSome, refl, sym, ◌∙◌, ap, subst}
 use Rattle.std.specs.Prelude.{◌↔◌, map}
 use Rattle.std.specs.String.{string_bytes}
 use Rattle.outside.specs.FilesContent.{FilesContent}
@@ -23,3 +23,6 @@ pub returns-clause-bad_digest : goal.returns-clause-bad_digest
 returns-clause-bad_digest g c =
     let Suits : ℕ → Type 0 = λ status. IfSome (g.F.Files.content c.args.files.now) (λ all. status ≢ 7 → status ≢ 8 → (status ≡ 11) ↔ HasBadDigest all (form_of (map string_bytes c.args.words.now))) in
     subst Suits (sym c.status_of.ensures) c.perform.ensures.outcome.bad_digest
+
+pub returns-clause-no_file : goal.returns-clause-no_file
+returns-clause-no_file g c two = c.perform.ensures.no_file (c.perform.ensures.outcome.usage.0 (sym c.status_of.ensures ∙ two))
