@@ -1,6 +1,8 @@
 -- What the table says of the state in which a service is permitted.
 use Rattle.std.proofs.Common.{◌≡◌, ◌≢◌, ◌⊎◌, true, refl, inl, inr}
 use Rattle.service_table.specs.declared.service.Service.TheVariants as service
+use Rattle.module_frames.specs.Requests.{RequestValue, service_for}
+use Rattle.module_frames.specs.Requests as request
 use Rattle.service_table.specs.declared.state.State.{State}
 use Rattle.service_table.specs.declared.state.State.TheVariants as state
 use Rattle.service_table.specs.Services.{is_permitted}
@@ -95,3 +97,23 @@ return_for_hash state.SelfTest h = cc
 return_for_hash state.Approved h = cc
 return_for_hash state.Entry h = cc
 return_for_hash state.Error h = cc
+
+-- only TestStep asks for the service of that name
+pub is_test_step : (what : RequestValue) → service_for what ≡ service.TestStep → what ≡ request.TestStep
+is_test_step request.TestStep is = refl
+is_test_step (request.PowerOn period) is = cc
+is_test_step request.RequestTests is = cc
+is_test_step request.ShowStatus is = cc
+is_test_step request.ShowVersion is = cc
+is_test_step (request.SelectRole role) is = cc
+is_test_step request.Reset is = cc
+is_test_step (request.EntryBegin slot header long) is = cc
+is_test_step (request.EntryBytes piece) is = cc
+is_test_step (request.EntryCommit check) is = cc
+is_test_step request.EntryAbort is = cc
+is_test_step (request.Zeroise slot) is = cc
+is_test_step request.ZeroiseAll is = cc
+is_test_step (request.ShowSlot slot) is = cc
+is_test_step (request.Cryptographic (request.Hash alg text)) is = cc
+is_test_step (request.Cryptographic (request.Mac slot alg mac_length text)) is = cc
+is_test_step (request.Cryptographic (request.MacVerify slot alg tag text)) is = cc

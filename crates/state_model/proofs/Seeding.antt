@@ -1,7 +1,8 @@
 -- What a seed leaves, by the noise.
-use Rattle.std.proofs.Common.{◌≡◌, ◌++◌, ◌∷◌, ℕ, zero, suc, List, [], Bool, true, false, Option, Some, None, refl, ap}
+use Rattle.std.proofs.Common.{◌≡◌, ◌++◌, ◌∷◌, ℕ, zero, suc, List, [], Bool, true, false, Option, Some, None, Ok, Err, refl, ap}
 use Rattle.std.specs.Prelude.{IfSome}
 use Rattle.drbg_core.specs.declared.generator.Drbg.{Drbg}
+use Rattle.noise_health.specs.declared.health.Health.{Health}
 use Rattle.noise_health.specs.Signals.{health_signal}
 use Rattle.noise_health.specs.declared.health.HealthFault.{HealthFault}
 use Rattle.noise_health.specs.declared.health.HealthFault.TheVariants as fault
@@ -12,8 +13,9 @@ use Rattle.outside.specs.declared.traits.Sample.TheVariants as event
 use Rattle.outside.specs.Events.{next_event, events_after}
 use Rattle.tested_noise.specs.Taken.{Taken, nothing_taken, health_failure, with_tested, with_event, one_more, samples_taken, taken_after}
 use Rattle.engine_core.specs.Calls.{Calls, Keeps}
-use Rattle.random_bits.specs.Draws.{Drawn, entropy, nonce, seeded_from}
-use Rattle.state_model.specs.SelfTesting.{seeded_when}
+use Rattle.random_bits.specs.Draws.{Drawn, IsDrawn, instantiated, entropy, nonce, seeded_from}
+use Rattle.state_model.specs.declared.self_testing.Judgement.{Judgement}
+use Rattle.state_model.specs.SelfTesting.{seeded_when, noise_judgement, IsSeeded}
 use Rattle.state_model.specs.MachineState.{AreHealthy, IsFailure}
 
 -- the samples are healthy where nothing failed, and what failed is a failure
@@ -57,7 +59,33 @@ seeded_by {V} calls engine generator samples events true P keeps healthy unseede
     by_failure (taken_after samples events 1408) (taken_after samples events 1408).failure refl (all_fine (nothing_taken samples events) 1408 (record { healthy = λ _. healthy; fails = tt }))
   where
     by_failure : (taken : Taken) (failure : Option Failure) → taken.failure ≡ failure → IsFine taken → P (seeded_from calls engine generator taken failure)
-    by_failure taken None is fine = rw is
-    (seeded (calls.instantiate_after engine (entropy taken.bytes) (nonce taken.bytes) []) (calls.instantiate engine (entropy taken.bytes) (nonce taken.bytes) []) taken.samples taken.left refl
+    by_failure taken None is fine =
+        let new : Drbg = calls.instantiate engine (entropy taken.bytes) (nonce taken.bytes) [] in
+        rw is (seeded (calls.instantiate_after engine (entropy taken.bytes) (nonce taken.bytes) []) new taken.samples taken.left refl
         (keeps.instantiate_counter engine (entropy taken.bytes) (nonce taken.bytes) []) (fine.healthy is))
     by_failure taken (Some why) is fine = rw is (failed taken.samples taken.left why refl (rw is at fine.fails))
+
+-- a seed that was due and taken
+pub seed_taken : {V : Type 0} (calls : Calls V) (engine engine' : V) (generator seed : Drbg) (health : Health) (samples : List ℕ) (events left : List Sample) (judged : Judgement) (due : Bool) → due ≡ true
+    → IsDrawn (instantiated calls engine generator samples events) engine' seed health (Ok tt) left → IsSeeded (seeded_when calls engine generator samples events due) judged engine' seed health judged left
+seed_taken calls engine engine' generator seed health samples events left judged true is drawn = record {
+  same_engine = drawn.same_engine;
+  same_generator = drawn.same_generator;
+  same_judgement = rw drawn.same_answer refl;
+  counts = drawn.counts;
+  events_left = drawn.events_left;
+}
+seed_taken calls engine engine' generator seed health samples events left judged false is drawn = cc
+
+-- and one for which the noise failed
+pub seed_failed : {V : Type 0} (calls : Calls V) (engine engine' : V) (generator seed : Drbg) (health : Health) (samples : List ℕ) (events left : List Sample) (judged after : Judgement) (why : Failure) (due : Bool)
+    → due ≡ true → after ≡ noise_judgement judged (Some why) → IsDrawn (instantiated calls engine generator samples events) engine' seed health (Err why) left
+    → IsSeeded (seeded_when calls engine generator samples events due) judged engine' seed health after left
+seed_failed calls engine engine' generator seed health samples events left judged after why true is same drawn = record {
+  same_engine = drawn.same_engine;
+  same_generator = drawn.same_generator;
+  same_judgement = rw drawn.same_answer same;
+  counts = drawn.counts;
+  events_left = drawn.events_left;
+}
+seed_failed calls engine engine' generator seed health samples events left judged after why false is same drawn = cc

@@ -97,10 +97,10 @@ test_step_kept {V} calls s events keeps rules testing =
         let Kept : Drawn V → Type 0 = λ seed. (let after = noise_judgement judged seed.failure in IsWellFormed (after_test s (with_seeded s.shared after seed) after.refused seed.left).machine) in
         seeded_by calls engine s.shared.generator s.shared.samples events (not (nat_lt n 2)) Kept keeps healthy
         (λ still.
-        let next : nat_lt n 2 ≡ true = grind (nat_tests, still) in
+        let next : nat_lt n 2 ≡ true = grind (arith, nat_tests, still) in
         rw next (passed_kept s true more engine s.shared.generator s.shared.samples next rules testing healthy (λ _. mac more includes first (n == 0) refl) (λ e. cc)))
         (λ engine' seed samples' left' due counter fine.
-        let over : nat_lt n 2 ≡ false = grind (nat_tests, due) in
+        let over : nat_lt n 2 ≡ false = grind (arith, nat_tests, due) in
         rw over (passed_kept s false more engine' seed samples' over rules testing fine (λ e. cc) (λ _. record {
           mac_passed = mac more includes first (n == 0) refl;
           generator_passed = last (grind (arith, nat_tests, over));

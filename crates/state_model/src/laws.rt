@@ -1,4 +1,5 @@
 // Laws of the machine, each the contract of a function without a body.
+ghost use Rattle.std.specs.Prelude.{ℕ, List};
 ghost use Rattle.state_model.specs.MachineState.{IsWellFormed, initial_state};
 ghost use Rattle.state_model.specs.Laws.{StepsKeepTheRules, DataNeedsARole, ZeroisingEmptiesAll, ZeroisingEmptiesOne, RefusalsChangeNothing, RefusalsChangeNoSlot, OutOfOrderByTheNumber, OutOfOrderChangesNothing, NumbersAreTaken};
 

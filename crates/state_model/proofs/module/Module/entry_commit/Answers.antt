@@ -19,7 +19,7 @@ invariant_of-self g c =
           let parts = w.commit-status.new.parts in
           let u : MachineState g.row.E.Denot = with_vault (with_slots t parts.engine t.slots) parts.vault in (
             entry_over u,
-            rw (c.entry_ended-self-inside.ensures, c.clear.ensures, w.self-inside-is) (record {
+            rw (c.entry_ended-self-inside.ensures, c.clear.ensures, w.self-inside-is, w.commit-status.ensures.leaves.0.generator) (record {
               same = refl;
               well_formed = entry_over_kept u (vault_kept t parts.engine parts.vault rules (w.commit-status.ensures.well_formed rules.slots)) entering;
               counts = λ _. rw w.commit-status.ensures.leaves.0.health (held.1.counts (λ e. cc));

@@ -1,4 +1,4 @@
-use Rattle.std.proofs.Common.{◌≡◌, ◌×◌, [], List, Option, Some, subst, sym, ap, ◌∙◌}
+use Rattle.std.proofs.Common.{◌≡◌, [], List, Option, Some, subst, sym, ap, ◌∙◌}
 use Rattle.outside.specs.declared.traits.Sample.{Sample}
 use Rattle.outside.proofs.Explanations.{explained_by}
 use Rattle.service_table.specs.declared.status.Status.{Status}
@@ -17,9 +17,10 @@ pub seed_when_due-seeded-requires : goal.seed_when_due-seeded-requires
 seed_when_due-seeded-requires g c =
     let held = c.self.invariant in
     let testing = rw (← c.self.view_is) at c.requires in
+    let m = view_of c.self.inside in
     record {
       counts = (held.0.shared.samples, held.1.counts (λ e. cc));
-      tested = rw c.run_step_test-judged.ensures.judgement (tested_without_noise g.E.Engine.calls _ _ _ _ _);
+      tested = rw c.run_step_test-judged.ensures.judgement (tested_without_noise g.E.Engine.calls m.engine m.public m.tests_passed c.deref.result.now m.digest);
     }
 
 pub invariant_of-self : goal.invariant_of-self
@@ -29,7 +30,7 @@ invariant_of-self g c =
     let m = view_of c.self.inside in
     let samples = held.0.shared.samples in
     let explained = c.seed_when_due-seeded.ensures.seeded.some in
-    let seeded = rw (c.run_step_test-judged.ensures.judgement, c.run_step_test-judged.ensures.engine) at (explained.1 [] samples (held.1.counts (λ e. cc))) in
+    let seeded = rw (c.run_step_test-judged.ensures.judgement, c.run_step_test-judged.ensures.engine, c.deref.ensures.value) at (explained.1 [] samples (held.1.counts (λ e. cc))) in
     let is = stepped_represents g.E.Engine.calls m samples _ [] _ _ _ _ g.met.E.Engine.keeps (rules_here held.1) testing seeded in
     rw (c.after_test-status.ensures, c.seed_when_due-seeded.ensures.vault) (_, is.0.represents)
 
@@ -40,7 +41,7 @@ returns-clause-answer g c = explained_by _ _ c.seed_when_due-seeded.ensures.seed
     let held : Represents (view_of c.self.inside) s = subst At (sym c.self.view_is) represents in
     let m = view_of c.self.inside in
     let t : MachineState g.row.E.Denot = machine_of m s.shared.samples in
-    let seeded = rw (c.run_step_test-judged.ensures.judgement, c.run_step_test-judged.ensures.engine) at (seeded' s.shared.samples (held.counts (λ e. cc))) in
+    let seeded = rw (c.run_step_test-judged.ensures.judgement, c.run_step_test-judged.ensures.engine, c.deref.ensures.value) at (seeded' s.shared.samples (held.counts (λ e. cc))) in
     let is = stepped_represents g.E.Engine.calls m s.shared.samples events left _ _ _ _ g.met.E.Engine.keeps (rules_here held) testing seeded in
     let parts = c.seed_when_due-seeded.new.parts in
     let after : ModuleView g.row.E.Denot = record m {
