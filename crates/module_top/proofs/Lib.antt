@@ -3,6 +3,8 @@ pub mod ResultCases
 pub mod ChunkSteps
 pub mod StreamEnds
 pub mod ProgramOutputs
+pub mod NamedFiles
+pub mod DigestLines
 pub mod OneOutput
+pub mod RunOutcomes
 pub mod PartialWrites
-pub mod WordLists

@@ -7,7 +7,7 @@ use Rattle.engine_core.specs.Calls.{Calls}
 use Rattle.outside.specs.declared.traits.Sample.{Sample}
 use Rattle.module_frames.specs.ReplyFrames.{ReplyFrame}
 use Rattle.state_model.specs.ModuleView.{ModuleView}
-use Rattle.state_model.specs.MachineState.{MachineState, initial_state}
+use Rattle.state_model.specs.MachineState.{MachineState}
 use Rattle.module_top.specs.declared.serving.Ended.{Ended}
 use Rattle.module_top.specs.declared.serving.Ended.TheVariants as ended
 use Rattle.module_top.specs.Grammars.{Grammar, fault_number, IsLawful}
@@ -97,12 +97,12 @@ start_stays : (grammar : Grammar) → IsLawful grammar → (bytes remainder more
 start_stays grammar lawful bytes remainder more = omega (arith, lawful.advance_both bytes more, lawful.advance_both remainder more)
 
 -- a stream that was read to its end
-output_at_end : {V : Type 0} (grammar : Grammar) (calls : Calls V) (engine : V) (ending : Ended) (m : ModuleView V) (bytes before taken read remainder : List ℕ) (left : List Sample) (after : Streams)
-    → Answered grammar calls (initial_state engine) [] read remainder m left (record { left = Some bytes; gained = Some before }) after
+output_at_end : {V : Type 0} (grammar : Grammar) (calls : Calls V) (s : MachineState V) (events : List Sample) (ending : Ended) (m : ModuleView V) (bytes before taken read remainder : List ℕ) (left : List Sample) (after : Streams)
+    → Answered grammar calls s events read remainder m left (record { left = Some bytes; gained = Some before }) after
     → ending_of grammar (remainder_start grammar read remainder) remainder ≡ ending → IsReadToEnd grammar taken read (Some bytes)
-    → (out : List ℕ) × ServesStream grammar calls engine bytes (exit_status ending) out × (after.gained ≡ Some (before ++ out))
-output_at_end {V} grammar calls engine ending m bytes before taken read remainder left after answered e to_end =
-    let Over : List ℕ → Type 0 = λ xs. Runs grammar calls (initial_state engine) [] xs answered.machine answered.replies left remainder in
+    → (out : List ℕ) × ServesStream grammar calls s events bytes (exit_status ending) out × (after.gained ≡ Some (before ++ out))
+output_at_end {V} grammar calls s events ending m bytes before taken read remainder left after answered e to_end =
+    let Over : List ℕ → Type 0 = λ xs. Runs grammar calls s events xs answered.machine answered.replies left remainder in
     let whole : read ≡ grammar.at_end bytes = to_end.read_at_end ∙ ap grammar.at_end (sym to_end.all) in (
       encoded_replies grammar answered.replies,
       record {
@@ -121,19 +121,19 @@ output_at_end {V} grammar calls engine ending m bytes before taken read remainde
     )
 
 -- a stream that shows a fault in the bytes taken
-output_at_fault : {V : Type 0} (grammar : Grammar) (calls : Calls V) → IsLawful grammar → (engine : V) (number : ℕ) (m : ModuleView V) (bytes before taken remainder more : List ℕ) (left : List Sample) (after : Streams)
-    → Answered grammar calls (initial_state engine) [] taken remainder m left (record { left = Some bytes; gained = Some before }) after
+output_at_fault : {V : Type 0} (grammar : Grammar) (calls : Calls V) → IsLawful grammar → (s : MachineState V) (events : List Sample) (number : ℕ) (m : ModuleView V) (bytes before taken remainder more : List ℕ) (left : List Sample) (after : Streams)
+    → Answered grammar calls s events taken remainder m left (record { left = Some bytes; gained = Some before }) after
     → ending_of grammar (remainder_start grammar taken remainder) remainder ≡ ended.BadFrame number → length taken ≤ STREAM_MAX → bytes ≡ taken ++ more
-    → (out : List ℕ) × ServesStream grammar calls engine bytes (exit_status (ended.BadFrame number)) out × (after.gained ≡ Some (before ++ out))
-output_at_fault {V} grammar calls lawful engine number m bytes before taken remainder more left after answered ends within all =
+    → (out : List ℕ) × ServesStream grammar calls s events bytes (exit_status (ended.BadFrame number)) out × (after.gained ≡ Some (before ++ out))
+output_at_fault {V} grammar calls lawful s events number m bytes before taken remainder more left after answered ends within all =
     let start = remainder_start grammar taken remainder in
     let fault : fault_number grammar start remainder ≡ Some number = ending_fault grammar start remainder number ends in
     let rest = more ++ lawful.mark in
     let cut = take (STREAM_MAX - length taken) more in
     let whole : grammar.at_end bytes ≡ taken ++ rest = lawful.is_mark bytes ∙ ap (λ xs. xs ++ lawful.mark) all ∙ append_assoc taken more lawful.mark in
     let first : take STREAM_MAX bytes ≡ taken ++ cut = ap (λ xs. take STREAM_MAX xs) all ∙ take_past STREAM_MAX taken more within in
-    let Whole : List ℕ → Type 0 = λ xs. Runs grammar calls (initial_state engine) [] xs answered.machine answered.replies left (remainder ++ rest) in
-    let Cut : List ℕ → Type 0 = λ xs. Runs grammar calls (initial_state engine) [] xs answered.machine answered.replies left (remainder ++ cut) in
+    let Whole : List ℕ → Type 0 = λ xs. Runs grammar calls s events xs answered.machine answered.replies left (remainder ++ rest) in
+    let Cut : List ℕ → Type 0 = λ xs. Runs grammar calls s events xs answered.machine answered.replies left (remainder ++ cut) in
     let whole_ends : ending_of grammar (remainder_start grammar (grammar.at_end bytes) (remainder ++ rest)) (remainder ++ rest) ≡ ended.BadFrame number =
     ap (λ xs. ending_of grammar (remainder_start grammar xs (remainder ++ rest)) (remainder ++ rest)) whole
     ∙ ap (λ n. ending_of grammar n (remainder ++ rest)) (start_stays grammar lawful taken remainder rest)
@@ -167,12 +167,12 @@ output_at_fault {V} grammar calls lawful engine number m bytes before taken rema
     )
 
 -- a stream of which as many bytes were taken as may be
-output_at_limit : {V : Type 0} (grammar : Grammar) (calls : Calls V) (engine : V) (m : ModuleView V) (bytes before taken remainder more : List ℕ) (left : List Sample) (after : Streams)
-    → Answered grammar calls (initial_state engine) [] taken remainder m left (record { left = Some bytes; gained = Some before }) after
+output_at_limit : {V : Type 0} (grammar : Grammar) (calls : Calls V) (s : MachineState V) (events : List Sample) (m : ModuleView V) (bytes before taken remainder more : List ℕ) (left : List Sample) (after : Streams)
+    → Answered grammar calls s events taken remainder m left (record { left = Some bytes; gained = Some before }) after
     → length taken ≡ STREAM_MAX → grammar.first_fault remainder ≡ None → bytes ≡ taken ++ more
-    → (out : List ℕ) × ServesStream grammar calls engine bytes (exit_status ended.Limit) out × (after.gained ≡ Some (before ++ out))
-output_at_limit {V} grammar calls engine m bytes before taken remainder more left after answered long no_fault all =
-    let Over : List ℕ → Type 0 = λ xs. Runs grammar calls (initial_state engine) [] xs answered.machine answered.replies left remainder in (
+    → (out : List ℕ) × ServesStream grammar calls s events bytes (exit_status ended.Limit) out × (after.gained ≡ Some (before ++ out))
+output_at_limit {V} grammar calls s events m bytes before taken remainder more left after answered long no_fault all =
+    let Over : List ℕ → Type 0 = λ xs. Runs grammar calls s events xs answered.machine answered.replies left remainder in (
       encoded_replies grammar answered.replies,
       record {
         short = λ less. absurd (omega (arith, ap length all, length-append taken more, long, less));
@@ -190,22 +190,22 @@ output_at_limit {V} grammar calls engine m bytes before taken remainder more lef
     )
 
 -- where no call failed, what serving leaves is the program's output
-pub output_of : {V : Type 0} (grammar : Grammar) (calls : Calls V) → IsLawful grammar → (engine : V) (ending : Ended) (chunk : ℕ) (m : ModuleView V) (bytes before : List ℕ) (left : List Sample) (after : Streams)
-    → Serves grammar calls ending chunk (initial_state engine) m (record { left = Some bytes; gained = Some before }) after [] left → exit_status ending ≢ 5 → exit_status ending ≢ 6
-    → (out : List ℕ) × ServesStream grammar calls engine bytes (exit_status ending) out × (after.gained ≡ Some (before ++ out))
-output_of grammar calls lawful engine ended.End chunk m bytes before left after (taken, read, remainder, consumes, answered, ends) no_read no_write =
-    output_at_end grammar calls engine ended.End m bytes before taken read remainder left after answered ends.0 ends.1
-output_of grammar calls lawful engine ended.Truncated chunk m bytes before left after (taken, read, remainder, consumes, answered, ends) no_read no_write =
-    output_at_end grammar calls engine ended.Truncated m bytes before taken read remainder left after answered ends.0 ends.1
-output_of {V} grammar calls lawful engine (ended.BadFrame number) chunk m bytes before left after (taken, read, remainder, consumes, answered, ends) no_read no_write =
-    let AtFault : List ℕ → Type 0 = λ xs. Answered grammar calls (initial_state engine) [] xs remainder m left (record { left = Some bytes; gained = Some before }) after in
+pub output_of : {V : Type 0} (grammar : Grammar) (calls : Calls V) → IsLawful grammar → (s : MachineState V) (events : List Sample) (ending : Ended) (chunk : ℕ) (m : ModuleView V) (bytes before : List ℕ) (left : List Sample) (after : Streams)
+    → Serves grammar calls ending chunk s m (record { left = Some bytes; gained = Some before }) after events left → exit_status ending ≢ 5 → exit_status ending ≢ 6
+    → (out : List ℕ) × ServesStream grammar calls s events bytes (exit_status ending) out × (after.gained ≡ Some (before ++ out))
+output_of grammar calls lawful s events ended.End chunk m bytes before left after (taken, read, remainder, consumes, answered, ends) no_read no_write =
+    output_at_end grammar calls s events ended.End m bytes before taken read remainder left after answered ends.0 ends.1
+output_of grammar calls lawful s events ended.Truncated chunk m bytes before left after (taken, read, remainder, consumes, answered, ends) no_read no_write =
+    output_at_end grammar calls s events ended.Truncated m bytes before taken read remainder left after answered ends.0 ends.1
+output_of {V} grammar calls lawful s events (ended.BadFrame number) chunk m bytes before left after (taken, read, remainder, consumes, answered, ends) no_read no_write =
+    let AtFault : List ℕ → Type 0 = λ xs. Answered grammar calls s events xs remainder m left (record { left = Some bytes; gained = Some before }) after in
     elim ends.2 [
-      | inl same ↦ output_at_fault grammar calls lawful engine number m bytes before taken remainder consumes.0 left after (subst AtFault same answered)
+      | inl same ↦ output_at_fault grammar calls lawful s events number m bytes before taken remainder consumes.0 left after (subst AtFault same answered)
           (ap (λ xs. ending_of grammar (remainder_start grammar xs remainder) remainder) (sym same) ∙ ends.0) ends.1 consumes.1
-      | inr to_end ↦ output_at_end grammar calls engine (ended.BadFrame number) m bytes before taken read remainder left after answered ends.0 to_end
+      | inr to_end ↦ output_at_end grammar calls s events (ended.BadFrame number) m bytes before taken read remainder left after answered ends.0 to_end
     ]
-output_of {V} grammar calls lawful engine ended.Limit chunk m bytes before left after (taken, read, remainder, consumes, answered, ends) no_read no_write =
-    let AtLimit : List ℕ → Type 0 = λ xs. Answered grammar calls (initial_state engine) [] xs remainder m left (record { left = Some bytes; gained = Some before }) after in
-    output_at_limit grammar calls engine m bytes before taken remainder consumes.0 left after (subst AtLimit ends.1 answered) ends.0 ends.2 consumes.1
-output_of grammar calls lawful engine ended.ReadFault chunk m bytes before left after served no_read no_write = absurd (no_read refl)
-output_of grammar calls lawful engine ended.WriteFault chunk m bytes before left after served no_read no_write = absurd (no_write refl)
+output_of {V} grammar calls lawful s events ended.Limit chunk m bytes before left after (taken, read, remainder, consumes, answered, ends) no_read no_write =
+    let AtLimit : List ℕ → Type 0 = λ xs. Answered grammar calls s events xs remainder m left (record { left = Some bytes; gained = Some before }) after in
+    output_at_limit grammar calls s events m bytes before taken remainder consumes.0 left after (subst AtLimit ends.1 answered) ends.0 ends.2 consumes.1
+output_of grammar calls lawful s events ended.ReadFault chunk m bytes before left after served no_read no_write = absurd (no_read refl)
+output_of grammar calls lawful s events ended.WriteFault chunk m bytes before left after served no_read no_write = absurd (no_write refl)

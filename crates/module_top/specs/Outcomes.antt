@@ -21,11 +21,15 @@ use Rattle.module_top.specs.Program.{FormValue, Serve, Digest, exit_status, dige
 abbrev pub is_refusal : ℕ → Bool
 is_refusal status = status == 2 || status == 7 || status == 8 || status == 9 || status == 11
 
+-- the name of a form's image
+abbrev pub named_image : FormValue → List ℕ
+named_image (Serve image digest noise) = image
+named_image (Digest image) = image
+
 -- the image that the words name is too long
 abbrev pub HasLongImage : FilesContent → Option FormValue → Type 0
 HasLongImage files None = ⊥
-HasLongImage files (Some (Serve image digest noise)) = HasFileAbove files image LARGEST_IMAGE
-HasLongImage files (Some (Digest image)) = HasFileAbove files image LARGEST_IMAGE
+HasLongImage files (Some form) = HasFileAbove files (named_image form) LARGEST_IMAGE
 
 -- the image that the words name isn't too long, and the digest file isn't of its form
 abbrev pub HasBadDigest : FilesContent → Option FormValue → Type 0
@@ -85,16 +89,14 @@ pub record IsOutcome {V S K : Type 0} (calls : Calls V) (engine : V) (files : Op
   pub write_fault : status ≡ 6 → FaultCounted before.write_faults after.write_faults
   pub writes_unchanged : status ≢ 6 → after.write_faults ≡ before.write_faults
 
--- why the image of this name wasn't loaded
+-- why the image of this name wasn't loaded: it is too long, its call failed, or there was no memory
 abbrev pub ImageRefused : Option FilesContent → (name : List ℕ) → RunFault → (faults faults' : ℕ) → Type 0
-ImageRefused files name fault.ImageTooLong faults faults' = IfSome files (λ all. HasFileAbove all name LARGEST_IMAGE) × (faults' ≡ faults)
-ImageRefused files name fault.FileFailed faults faults' = FaultCounted faults faults'
-ImageRefused files name fault.OutOfMemory faults faults' = faults' ≡ faults
-ImageRefused files name other faults faults' = ⊥
+ImageRefused files name why faults faults' =
+    ((why ≡ fault.ImageTooLong) × IfSome files (λ all. HasFileAbove all name LARGEST_IMAGE) × (faults' ≡ faults))
+    ⊎ ((why ≡ fault.FileFailed) × FaultCounted faults faults') ⊎ ((why ≡ fault.OutOfMemory) × (faults' ≡ faults))
 
--- why there is no digest from the file of this name
+-- why the file of this name gave no digest: it isn't of the form, its call failed, or there was no memory
 abbrev pub DigestRefused : Option FilesContent → (name : List ℕ) → RunFault → (faults faults' : ℕ) → Type 0
-DigestRefused files name fault.BadDigest faults faults' = IfSome files (λ all. (text : List ℕ) × HasFile all name text × (digest_of text ≡ None)) × (faults' ≡ faults)
-DigestRefused files name fault.FileFailed faults faults' = FaultCounted faults faults'
-DigestRefused files name fault.OutOfMemory faults faults' = faults' ≡ faults
-DigestRefused files name other faults faults' = ⊥
+DigestRefused files name why faults faults' =
+    ((why ≡ fault.BadDigest) × IfSome files (λ all. (text : List ℕ) × HasFile all name text × (digest_of text ≡ None)) × (faults' ≡ faults))
+    ⊎ ((why ≡ fault.FileFailed) × FaultCounted faults faults') ⊎ ((why ≡ fault.OutOfMemory) × (faults' ≡ faults))

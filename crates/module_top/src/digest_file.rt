@@ -1,18 +1,16 @@
 // The file of an image's digest.
 ghost use Rattle.std.specs.Prelude.{◌≡◌};
-ghost use Rattle.module_top.specs.DigestFile.{digest_of, digits_of};
+ghost use Rattle.std.specs.Result.{result_ok};
+ghost use Rattle.hex.specs.Hex.{decode_sized};
+ghost use Rattle.module_top.specs.DigestFile.{digest_of};
 
 use hex::FromHex;
 
-// The text without the LF that stands behind its 64 other bytes.
-fn digits_of(text: &[u8]) -> &[u8]
-    ensures { result.now ≡ digits_of text.now }
+// The 32 bytes that hex digits spell, where there are 64 digits and nothing else.
+fn spelled_by(digits: &[u8]) -> Option<[u8; 32]>
+    ensures { result ≡ result_ok (decode_sized digits.now 32) }
 {
-    if text.len() == 65 && text[64] == b'\n' {
-        &text[..64]
-    } else {
-        text
-    }
+    <[u8; 32] as FromHex>::from_hex(digits).ok()
 }
 
 /// The 32 bytes that the text of a digest file spells: 64 hex digits of either case, and at most one LF behind them. `None` where it
@@ -20,5 +18,8 @@ fn digits_of(text: &[u8]) -> &[u8]
 pub fn digest_of(text: &[u8]) -> Option<[u8; 32]>
     ensures { result ≡ digest_of text.now }
 {
-    <[u8; 32] as FromHex>::from_hex(digits_of(text)).ok()
+    match text.strip_suffix(b"\n") {
+        Some(digits) => spelled_by(digits),
+        None => spelled_by(text),
+    }
 }

@@ -33,7 +33,7 @@ pub fn digest_image<E: Engine, F: Files, K: Sink>(
 ) -> Result<(), RunFault>
     ensures outcome { IsOutcome E.calls engine (F.content files.old) (Some (Digest name.now)) (result_status result)
         (record {
-          source = tt;
+          source = tt {0};
           sink = replies.old;
           streams = record { left = None; gained = K.gained replies.old };
           file_faults = F.faults files.old;
@@ -41,7 +41,7 @@ pub fn digest_image<E: Engine, F: Files, K: Sink>(
           write_faults = K.faults replies.old;
         })
         (record {
-          source = tt;
+          source = tt {0};
           sink = replies.new;
           streams = record { left = None; gained = K.gained replies.new };
           file_faults = F.faults files.new;

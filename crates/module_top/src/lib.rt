@@ -22,6 +22,6 @@ mod words;
 mod writing;
 
 pub use faults::RunFault;
-pub use laws::has_one_output;
+pub use laws::{digest_line_is_read, has_one_output};
 pub use running::run;
 pub use serving::{Ended, serve};

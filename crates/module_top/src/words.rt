@@ -1,5 +1,5 @@
 // The words after the program's name.
-ghost use Rattle.std.specs.Prelude.{◌≡◌, bytes_eq, codes, map};
+ghost use Rattle.std.specs.Prelude.{◌≡◌, Some, None, if◌then◌else◌, bytes_eq, codes, map};
 ghost use Rattle.std.specs.Option.{option_map};
 ghost use Rattle.std.specs.String.{string_bytes};
 
@@ -18,33 +18,44 @@ pub enum Form<'a> {
     },
 }
 
-fn is_serve(word: &str) -> bool
-    ensures { result ≡ bytes_eq word.now (codes "serve") }
+ghost use Rattle.module_top.specs.Program.{Serve, Digest, form_of, form_value};
+
+fn serve_form<'a>(word: &str, image: &'a str, digest: &'a str, noise: &'a str) -> Option<Form<'a>>
+    ensures { option_map form_value result ≡ (if bytes_eq word.now (codes "serve") then Some (Serve image.now digest.now noise.now) else None) }
 {
-    word == "serve"
+    if word == "serve" {
+        Some(Form::Serve {
+            image,
+            digest,
+            noise,
+        })
+    } else {
+        None
+    }
 }
 
-fn is_digest(word: &str) -> bool
-    ensures { result ≡ bytes_eq word.now (codes "digest") }
+fn digest_form<'a>(word: &str, image: &'a str) -> Option<Form<'a>>
+    ensures { option_map form_value result ≡ (if bytes_eq word.now (codes "digest") then Some (Digest image.now) else None) }
 {
-    word == "digest"
+    if word == "digest" {
+        Some(Form::Digest { image })
+    } else {
+        None
+    }
 }
-
-ghost use Rattle.module_top.specs.Program.{form_of, form_value};
 
 /// The form of the words. `None` where they have none, which is a faulty command line.
 pub fn form_of(words: &[String]) -> Option<Form<'_>>
     ensures { option_map form_value result ≡ form_of (map string_bytes words.now) }
 {
     match words {
-        [word, image, digest, noise] if is_serve(word.as_str()) => Some(Form::Serve {
-            image: image.as_str(),
-            digest: digest.as_str(),
-            noise: noise.as_str(),
-        }),
-        [word, image] if is_digest(word.as_str()) => Some(Form::Digest {
-            image: image.as_str(),
-        }),
+        [word, image, digest, noise] => serve_form(
+            word.as_str(),
+            image.as_str(),
+            digest.as_str(),
+            noise.as_str(),
+        ),
+        [word, image] => digest_form(word.as_str(), image.as_str()),
         _ => None,
     }
 }
