@@ -3,6 +3,7 @@
 usage: client.py PROGRAM LAUNCHER. Each talk with the program has a deadline. What is expected is written out here.
 """
 import os
+import re
 import select
 import signal
 import subprocess
@@ -231,6 +232,7 @@ IMAGE_TOO_LONG = b"image too long\n"
 BAD_DIGEST = b"bad digest file\n"
 
 PROGRAM, LAUNCHER = map(os.path.abspath, sys.argv[1:])
+MANUAL = os.path.join(os.path.dirname(os.path.abspath(__file__)), "..", "docs", "INTERFACE.md")
 
 # A folder with the files `image`, `digest` and `noise`, which has as many samples as two passes take.
 ROOM = tempfile.TemporaryDirectory()
@@ -417,6 +419,20 @@ def numbered():
                 talk.send(command[at:])
                 expect(f"reply to {command}", talk.receive(len(reply) // 2), bytes.fromhex(reply))
             talk.ends(0, b"")
+
+
+def as_in_the_manual():
+    """The rows of the manual's dialogue, over noise for the one pass that comes to its end there."""
+    with open(MANUAL, encoding="utf-8") as manual:
+        text = manual.read()
+    rows = re.findall(r"^\| `(c5[0-9a-f]+)` \| `(5c[0-9a-f]+)`(?: and `([0-9a-f]+)`)? \|", text, re.MULTILINE)
+    if len(rows) < 30:
+        raise Wrong(f"the manual shows {len(rows)} commands")
+    in_room("once", bytes(k % 256 for k in range(PASS)))
+    with Talk(serve_words(noise="once")) as talk:
+        for command, header, payload in rows:
+            talk.ask(command, header + payload)
+        talk.ends(0, b"")
 
 
 def longest_body():
@@ -648,6 +664,7 @@ CASES = [
     entering,
     committing,
     numbered,
+    as_in_the_manual,
     longest_body,
     bad_frames,
     truncated_frames,
