@@ -24,7 +24,7 @@ END
 python3 commands.py $((count / 10)) >few
 python3 commands.py $((count + count / 10)) >many
 
-ours=$(served replies "$program" serve)
+ours=$(served replies "${serve[@]}")
 peer=$(served digests python3 peer.py)
 cmp -s <(tail -c 32 replies) <(tail -c 32 digests) || fail 'the last digests differ'
 what_runs_here

@@ -1,12 +1,12 @@
 #!/usr/bin/env bash
 # The memory of the proved `serve` after commands with the largest bodies, and how it ends with less: the manual has these figures.
 . "$(dirname "$0")/served.sh"
-python3 - "$program" <<'END'
+python3 - "${serve[@]}" <<'END'
 import resource
 import subprocess
 import sys
 
-program = [sys.argv[1], "serve"]
+program = sys.argv[1:]
 status = bytes.fromhex("c501040000000000")
 to_user = "c50101000000000400000000 c501030000000000 c501020000000000 c501020000000000 c501020000000000 c50106000000000102"
 largest = bytes.fromhex("c5011000 00010040 01") + bytes(65_599)

@@ -24,7 +24,7 @@ commands() {
 commands $((count / 10)) >few
 commands $((count + count / 10)) >many
 
-ours=$(served replies "$program" serve)
+ours=$(served replies "${serve[@]}")
 floor=$(served floor_replies ./floor)
 cmp -s replies floor_replies || fail 'serve and its floor wrote different bytes'
 what_runs_here

@@ -4,6 +4,11 @@
 program=$room/module_program
 cp "$top/crates/module_program/out/module_program" "$program"
 cd "$room"
+# What it serves: an image, its digest, and noise for one pass of the tests.
+printf abc >image
+"$program" digest image >digest || fail 'the image has no digest'
+head -c 1408 /dev/urandom >noise
+serve=("$program" serve image digest noise)
 
 # served NAME COMMAND..: the milliseconds from the file `many` to its replies, less those from the file `few`; the last replies stand in NAME
 served() {

@@ -3,10 +3,12 @@
 usage: client.py PROGRAM LAUNCHER. Each talk with the program has a deadline. What is expected is written out here.
 """
 import os
+import re
 import select
 import signal
 import subprocess
 import sys
+import tempfile
 import time
 
 SECONDS = 30
@@ -19,6 +21,12 @@ POWERED_ON = "5c0101000100000000000000000000000000000000000000"
 SHOWN_3 = "5c0104000100000000000000000000030000000000000000"
 SHOWN_OFF = "5c0104000000000000000000000000000000000000000000"
 WAS_RESET = "5c0107000100000000000000000000000000000000000000"
+
+# The image 616263, and its HMAC-SHA-256 under the key of the bytes 00 to 1f, by `openssl dgst -sha256 -mac HMAC`.
+IMAGE = b"abc"
+DIGEST = b"f0133729c4163dede81e21cd47839256da58171238c8a0d874397c73b14e1e47\n"
+# The samples that the three steps of the tests take.
+PASS = 1408
 
 TALK = [(POWER_ON_3, POWERED_ON), (SHOW_STATUS, SHOWN_3), (RESET, WAS_RESET)]
 COMMANDS = "".join(command for command, _ in TALK)
@@ -186,13 +194,61 @@ NUMBERED = [
     ("c50204000000000000000008", "5c020400010000000000000000000003000000000000000000000008"),
 ]
 
-USAGE = b"usage: serve\n"
+# From the second step on, over an image that has another digest.
+CHANGED = [
+    ("c501020000000000", "5c0102040700020000000000000000000000000000000000"),
+    ("c50106000000000102", "5c0106020700020000000000000000000000000000000000"),
+    ("c501020000000000", "5c0102020700020000000000000000000000000000000000"),
+    ("c501040000000000", "5c0104000700020000000010000000030000000000000000"),
+    ("c501070000000000", "5c0107000100000000000000000000000000000000000000"),
+]
+
+# The last step, where the noise ends, and where its first 31 bytes are equal.
+NOISE_FAULT = [
+    ("c501020000000000", "5c0102050700030000000000000000000000000000000000"),
+    ("c50106000000000102", "5c0106020700030000000000000000000000000000000000"),
+    ("c501040000000000", "5c0104000700030000004010000000030000000000000000"),
+    ("c501070000000000", "5c0107000100000000000000000000000000000000000000"),
+]
+
+STUCK = [
+    ("c501020000000000", "5c0102050700050000000000000000000000000000000000"),
+    ("c50106000000000102", "5c0106020700050000000000000000000000000000000000"),
+    ("c501040000000000", "5c0104000700050000004010000000030000000000000000"),
+    ("c501070000000000", "5c0107000100000000000000000000000000000000000000"),
+]
+
+# The same HMAC of no bytes, and of 16,777,216 bytes 00.
+EMPTY_DIGEST = b"d38b42096d80f45f826b44a9d5607de72496a415d3f4a1a8c88e3bb9da8dc1cb\n"
+ZEROS_DIGEST = b"e7e5b3b173eaad5deb4c69c43c9501be552e11f55b87229d4d4e3d343877ed85\n"
+
+USAGE = b"usage: serve or digest\n"
 BAD_FRAME = b"bad frame\n"
 TRUNCATED = b"truncated frame\n"
 READ_FAILED = b"read failed\n"
 WRITE_FAILED = b"write failed\n"
+FILE_FAILED = b"file failed\n"
+IMAGE_TOO_LONG = b"image too long\n"
+BAD_DIGEST = b"bad digest file\n"
 
 PROGRAM, LAUNCHER = map(os.path.abspath, sys.argv[1:])
+MANUAL = os.path.join(os.path.dirname(os.path.abspath(__file__)), "..", "docs", "INTERFACE.md")
+
+# A folder with the files `image`, `digest` and `noise`, which has as many samples as two passes take.
+ROOM = tempfile.TemporaryDirectory()
+
+
+def in_room(name, content=None):
+    """The path of a file there, which is written first where its content is given."""
+    path = os.path.join(ROOM.name, name)
+    if content is not None:
+        with open(path, "wb") as file:
+            file.write(content)
+    return path
+
+
+def serve_words(image="image", digest="digest", noise="noise"):
+    return ["serve", in_room(image), in_room(digest), in_room(noise)]
 
 
 class Wrong(Exception):
@@ -216,9 +272,10 @@ def expect(what, got, wanted):
 class Talk:
     """A run of the program with pipes to its standard input, output and error, and with a deadline."""
 
-    def __init__(self, words=("serve",), program=None, **how):
+    def __init__(self, words=None, program=None, **how):
         pipes = {"stdin": subprocess.PIPE, "stdout": subprocess.PIPE, "stderr": subprocess.PIPE}
-        self.ran = subprocess.Popen([program or PROGRAM, *words], bufsize=0, **{**pipes, **how})
+        asked = [program or PROGRAM, *(serve_words() if words is None else words)]
+        self.ran = subprocess.Popen(asked, bufsize=0, **{**pipes, **how})
 
     def __enter__(self):
         signal.alarm(SECONDS)
@@ -364,6 +421,20 @@ def numbered():
             talk.ends(0, b"")
 
 
+def as_in_the_manual():
+    """The rows of the manual's dialogue, over noise for the one pass that comes to its end there."""
+    with open(MANUAL, encoding="utf-8") as manual:
+        text = manual.read()
+    rows = re.findall(r"^\| `(c5[0-9a-f]+)` \| `(5c[0-9a-f]+)`(?: and `([0-9a-f]+)`)? \|", text, re.MULTILINE)
+    if len(rows) < 30:
+        raise Wrong(f"the manual shows {len(rows)} commands")
+    in_room("once", bytes(k % 256 for k in range(PASS)))
+    with Talk(serve_words(noise="once")) as talk:
+        for command, header, payload in rows:
+            talk.ask(command, header + payload)
+        talk.ends(0, b"")
+
+
 def longest_body():
     answers("c501040000010040" + "00" * 65_600 + SHOW_STATUS, "5c0104030000000000000000000000000000000000000000" + SHOWN_OFF)
 
@@ -408,9 +479,122 @@ def truncated_frames():
 
 
 def other_words():
-    for words in [[], [""], ["Serve"], ["serve "], ["serv"], ["serve", ""], ["serve", "serve"], ["--help"], ["-"], ["demo"], [b"\xff"], ["serve", b"\xff"]]:
+    serve = serve_words()
+    wrong = [[], [""], ["serve"], serve[:2], serve[:3], serve + [serve[3]], ["Serve", *serve[1:]], ["serve ", *serve[1:]], ["serv", *serve[1:]]]
+    wrong += [["digest"], ["digest", serve[1], serve[2]], ["Digest", serve[1]], ["--help"], ["-"], ["demo"], [b"\xff"], ["digest", b"\xff"]]
+    for words in wrong:
         with Talk(words) as talk:
             talk.ends_by_itself(2, USAGE)
+
+
+def other_files():
+    in_room("empty", b"")
+    in_room("short", DIGEST[:63])
+    in_room("long", DIGEST + b"\n")
+    in_room("other", DIGEST.replace(b"f", b"g"))
+    os.truncate(in_room("large", b""), 16_777_216)
+    os.truncate(in_room("larger", b""), 16_777_217)
+    rows = [
+        (serve_words(image="none"), 8, FILE_FAILED),
+        (serve_words(image=""), 8, FILE_FAILED),
+        (serve_words(image="larger", digest="none"), 9, IMAGE_TOO_LONG),
+        (serve_words(digest="none"), 8, FILE_FAILED),
+        (serve_words(digest=""), 8, FILE_FAILED),
+        (serve_words(digest="empty"), 11, BAD_DIGEST),
+        (serve_words(digest="short"), 11, BAD_DIGEST),
+        (serve_words(digest="long"), 11, BAD_DIGEST),
+        (serve_words(digest="other"), 11, BAD_DIGEST),
+        (serve_words(digest="short", noise="none"), 11, BAD_DIGEST),
+        (serve_words(noise="none"), 8, FILE_FAILED),
+        (serve_words(noise=""), 8, FILE_FAILED),
+        (["digest", in_room("none")], 8, FILE_FAILED),
+        (["digest", in_room("larger")], 9, IMAGE_TOO_LONG),
+        (["digest", "/dev/zero"], 9, IMAGE_TOO_LONG),
+    ]
+    for words, status, text in rows:
+        with Talk(words) as talk:
+            talk.ends_by_itself(status, text)
+    # what is loaded is looked at in the second step alone
+    for image in ("empty", "large"):
+        with Talk(serve_words(image=image)) as talk:
+            for command, reply in TALK:
+                talk.ask(command, reply)
+            talk.ends(0, b"")
+
+
+def digests():
+    for image, digits in [(IMAGE, DIGEST), (b"", EMPTY_DIGEST), (bytes(16_777_216), ZEROS_DIGEST)]:
+        with Talk(["digest", in_room("digested", image)]) as talk:
+            expect("digest", talk.receive(len(digits)), digits)
+            talk.ends_by_itself(0, b"")
+    # a file's digest as the program writes it serves it
+    in_room("digested", bytes(range(256)))
+    with open(in_room("written"), "wb") as written, Talk(["digest", in_room("digested")], stdout=written) as talk:
+        talk.ends(0, b"")
+    with Talk(serve_words("digested", "written")) as talk:
+        for command, reply in TO_APPROVED:
+            talk.ask(command, reply)
+        talk.ends(0, b"")
+
+
+def changed_image():
+    with Talk(serve_words(image="changed")) as talk:
+        for command, reply in TO_APPROVED[:-2] + CHANGED:
+            talk.ask(command, reply)
+        talk.ends(0, b"")
+
+
+def noise_ends():
+    # two passes find as many samples as they take, and a third finds none
+    with Talk() as talk:
+        for command, reply in TO_APPROVED + [(RESET, WAS_RESET)] + TO_APPROVED[1:] + [(RESET, WAS_RESET)] + TO_APPROVED[1:-1] + NOISE_FAULT:
+            talk.ask(command, reply)
+        talk.ends(0, b"")
+    # one sample is missing
+    in_room("less", bytes(k % 256 for k in range(PASS - 1)))
+    with Talk(serve_words(noise="less")) as talk:
+        for command, reply in TO_APPROVED[:-1] + NOISE_FAULT:
+            talk.ask(command, reply)
+        talk.ends(0, b"")
+
+
+def noise_is_stuck():
+    with Talk(serve_words(noise="zeros")) as talk:
+        for command, reply in TO_APPROVED[:-1] + STUCK:
+            talk.ask(command, reply)
+        talk.ends(0, b"")
+
+
+def noise_comes_late():
+    os.mkfifo(in_room("late"))
+    late = os.open(in_room("late"), os.O_RDWR | os.O_NONBLOCK)
+    samples = bytes(k % 256 for k in range(PASS + 10))
+    try:
+        with Talk(serve_words(noise="late")) as talk:
+            for command, reply in TO_APPROVED[:-1]:
+                talk.ask(command, reply)
+            os.write(late, samples[: PASS - 1])
+            talk.send(TO_APPROVED[-1][0])
+            if not talk.is_silent(0.2):
+                raise Wrong("the last step was answered before its noise was there")
+            os.write(late, samples[PASS - 1 :])
+            expect("reply to the last step", talk.receive(24), bytes.fromhex(TO_APPROVED[-1][1]))
+            talk.ends(0, b"")
+        # no more was read than was asked for
+        left = os.read(late, 100)
+        if left != samples[PASS:]:
+            raise Wrong(f"it left {left.hex()} of its noise")
+    finally:
+        os.close(late)
+
+
+def noise_without_end():
+    for device in ("/dev/random", "/dev/urandom"):
+        if os.path.exists(device):
+            with Talk(serve_words(noise=device)) as talk:
+                for command, reply in TO_APPROVED + [(RESET, WAS_RESET)] + TO_APPROVED[1:]:
+                    talk.ask(command, reply)
+                talk.ends(0, b"")
 
 
 def reader_gone():
@@ -449,19 +633,24 @@ def input_fails():
             talk.ends(5, READ_FAILED)
     finally:
         os.close(folder)
+    # where there is no standard input at all, the noise gets its number, and is read as commands
     with Talk(stdin=None, preexec_fn=lambda: os.close(0)) as talk:
-        talk.ends(5, READ_FAILED)
+        talk.ends(3, BAD_FRAME)
 
 
 def through_the_launcher():
-    with Talk(program=LAUNCHER) as talk:
+    # from another folder, by names that are relative to it
+    here = {"program": LAUNCHER, "cwd": ROOM.name}
+    with Talk(["serve", "image", "digest", "noise"], **here) as talk:
         for command, reply in TALK:
             talk.ask(command, reply)
         talk.send("00")
         talk.ends_by_itself(3, BAD_FRAME)
-    for words in (["serve", ""], ["serve", "serve"]):
-        with Talk(words, program=LAUNCHER) as talk:
-            talk.ends_by_itself(2, USAGE)
+    with Talk(["digest", "image"], **here) as talk:
+        expect("digest", talk.receive(len(DIGEST)), DIGEST)
+        talk.ends_by_itself(0, b"")
+    with Talk(["serve", "none", "digest", "noise"], **here) as talk:
+        talk.ends_by_itself(8, FILE_FAILED)
 
 
 CASES = [
@@ -475,10 +664,18 @@ CASES = [
     entering,
     committing,
     numbered,
+    as_in_the_manual,
     longest_body,
     bad_frames,
     truncated_frames,
     other_words,
+    other_files,
+    digests,
+    changed_image,
+    noise_ends,
+    noise_is_stuck,
+    noise_comes_late,
+    noise_without_end,
     reader_gone,
     output_closed,
     output_full,
@@ -491,6 +688,11 @@ def main():
     # a write to a program that has ended is an error here, and not the end of this script
     signal.signal(signal.SIGPIPE, signal.SIG_IGN)
     signal.signal(signal.SIGALRM, too_late)
+    in_room("image", IMAGE)
+    in_room("changed", b"abd")
+    in_room("digest", DIGEST)
+    in_room("noise", bytes(k % 256 for k in range(2 * PASS)))
+    in_room("zeros", bytes(PASS))
     failed = 0
     for case in CASES:
         try:

@@ -38,14 +38,15 @@ for tool in bash sh env dirname readlink cat awk find grep; do
 done
 copy=$room/copy/warlinden
 bare=(env "PATH=$room/bin")
-for words in '' frobnicate 'demo demo' 'build now' Serve; do
+for words in '' frobnicate 'demo demo' 'build now' Serve serve 'serve image digest' 'serve a b c d' digest 'digest a b'; do
     # shellcheck disable=SC2086
     ends 2 - 'usage: warlinden' "${bare[@]}" "$copy" $words
 done
 for word in help --help -h; do
     ends 0 'usage: warlinden' - "${bare[@]}" "$copy" "$word"
 done
-ends 127 - 'warlinden: .*no rt' "${bare[@]}" "$copy" serve
+ends 127 - 'warlinden: .*no rt' "${bare[@]}" "$copy" serve image digest noise
+ends 127 - 'warlinden: .*no rt' "${bare[@]}" "$copy" digest image
 ends 127 - 'warlinden: .*no rt' "${bare[@]}" "$copy" build
 ends 127 - 'warlinden: .*python3' "${bare[@]}" "$copy" demo
 if [ -e /dev/full ]; then
@@ -58,12 +59,17 @@ fi
 # The built program: through a symlink, from another folder, without core files.
 ./warlinden build || fail 'the program is not built'
 ln -s "$top/warlinden" "$room/link"
-cd / || exit 1
+cd "$room" || exit 1
 ends 0 - - "$room/link" build
-ends 0 - - "$room/link" serve
-ends 2 - 'usage: serve' "$room/link" serve now
+printf abc >image
+ends 0 f0133729c4163dede81e21cd47839256da58171238c8a0d874397c73b14e1e47 - "$room/link" digest image
+cp out digest || exit 1
+ends 0 - - "$room/link" serve image digest /dev/null
+ends 8 - 'file failed' "$room/link" serve image digest none
+ends 11 - 'bad digest file' "$room/link" serve image image /dev/null
+ends 2 - 'usage: warlinden' "$room/link" serve now
 if python3 -c 'import sys; sys.exit(sys.version_info < (3, 8))' 2>/dev/null; then
-    ends 0 'SelectRole' - "$room/link" demo
+    ends 0 'The image has' - "$room/link" demo
     ends 125 - 'client: .*write' bash -c 'exec "$0" demo >/dev/full' "$room/link"
 fi
 echo 'launcher: passed'

@@ -5,7 +5,7 @@ As a library:
 
     from client import Algorithm, Module, Role
 
-    with Module(["./warlinden", "serve"]) as module:
+    with Module(["./warlinden", "serve", "image", "digest", "/dev/random"]) as module:
         module.power_on(period=0)
         module.run_tests()
         module.select_role(Role.User)
@@ -13,22 +13,26 @@ As a library:
 
 As a command, where PROGRAM is ./warlinden or the program that it builds:
 
-    client.py demo [--numbered] [--at-once] -- PROGRAM serve    plays a worked dialogue, and shows it
-    client.py talk [--numbered] -- PROGRAM serve                sends the commands of its lines, and shows each reply
-    client.py talk [--numbered] --socket PATH                   the same over a socket
-    client.py decode                                            shows the replies whose bytes it is given
+    client.py demo [--numbered] [--at-once] -- PROGRAM           plays a worked dialogue over files of its own, and shows it
+    client.py talk [--numbered] -- PROGRAM serve IMAGE DIGEST NOISE
+                                                                 sends the commands of its lines, and shows each reply
+    client.py talk [--numbered] --socket PATH                    the same over a socket
+    client.py decode                                             shows the replies whose bytes it is given
 
 A line of `talk` is the name of a service, or its number in hex, and its body in hex, as `Hash 01616263`.
 """
 import enum
 import hmac
+import os
 import socket
 import subprocess
 import sys
+import tempfile
 
 LARGEST_BODY = 65_600
 LARGEST_PAYLOAD = 65_664
 HEADER_LENGTHS = {1: 24, 2: 28}
+IMAGE_KEY = bytes(range(32))
 
 
 class Service(enum.IntEnum):
@@ -113,6 +117,9 @@ EXIT_STATUSES = {
     5: "a read failed",
     6: "a write failed",
     7: "out of memory",
+    8: "a file could not be read",
+    9: "the image has more than 16,777,216 bytes",
+    11: "the digest file is not 64 hex digits and at most one line feed",
     12: "stream too long: 2^40 bytes were read",
     125: "the launcher could not write",
     126: "the launcher could not prove and build the program",
@@ -134,9 +141,20 @@ def exit_in_words(status):
     return f"exit status {status}, {EXIT_STATUSES.get(status, 'which this client does not know')}"
 
 
+FAILURES = {
+    0x0200: "the image has another digest",
+    0x0300: "the noise ended",
+    0x0400: "the noise could not be read",
+    0x0500: "the noise failed the repetition count test",
+    0x0600: "the noise failed the adaptive proportion test",
+}
+
+
 def failure_in_words(code):
     """What failed by an error code, where this client knows it."""
-    return f", known-answer test {code - 0x0100} failed" if 0x0101 <= code <= 0x010e else ""
+    if 0x0101 <= code <= 0x010E:
+        return f", known-answer test {code - 0x0100} failed"
+    return f", {FAILURES[code]}" if code in FAILURES else ""
 
 
 def command_frame(service, body=b"", sequence=None):
@@ -245,6 +263,11 @@ def read_reply(stream):
 def entry_header(slot, kind, domain, exportable, uses, length):
     """The body of EntryBegin."""
     return bytes([slot, kind, domain, exportable]) + uses.to_bytes(4, "big") + bytes([length])
+
+
+def image_digest(image):
+    """The digest of an image, as the program's `digest` writes it."""
+    return hmac.new(IMAGE_KEY, image, "sha256").hexdigest()
 
 
 def check_value(header, parameter):
@@ -401,9 +424,9 @@ DIALOGUE = [
     ("power on; tests are due after every third use", Service.PowerOn, b"\0\0\0\3"),
     ("what everyone may see", Service.ShowStatus, b""),
     ("the self-tests, please", Service.RequestTests, b""),
-    ("first of three steps", Service.TestStep, b""),
-    ("second", Service.TestStep, b""),
-    ("third", Service.TestStep, b""),
+    ("first of three steps: HMAC-SHA-256", Service.TestStep, b""),
+    ("second: the image", Service.TestStep, b""),
+    ("third: the generator, and its seed from 1,408 bytes of noise", Service.TestStep, b""),
     ("the officer's role", Service.SelectRole, b"\x01"),
     ("name and version", Service.ShowVersion, b""),
     ("a MAC key of four bytes for slot 3, with 100 uses", Service.EntryBegin, HEADER),
@@ -421,14 +444,25 @@ NUMBERED = [
     ("the same number again", Service.ShowStatus, b"", Status.OutOfOrder, "it was taken already"),
 ]
 LAST = ("all slots are emptied", Service.Reset, b"")
+# The same module over an image of which a byte was changed.
+CHANGED = [
+    ("power on", Service.PowerOn, b"\0\0\0\0"),
+    ("the self-tests, please", Service.RequestTests, b""),
+    ("first step: HMAC-SHA-256", Service.TestStep, b""),
+    ("second: the image", Service.TestStep, b"", Status.TestFailed, "it is not the image that the digest was made of"),
+    ("the user's role", Service.SelectRole, b"\x02", UNASKED, "after a failed test there is only ShowStatus, ShowVersion and Reset"),
+    ("what everyone may see", Service.ShowStatus, b""),
+]
+
+
+def frames_of(lines, sequence=None):
+    """Lines of a dialogue, each with its frame."""
+    return [(line, command_frame(*line[1:3], sequence=sequence)) for line in lines]
 
 
 def dialogue_frames(with_numbers):
     """The demo's lines, each with its frame."""
-    frames = [(line, command_frame(*line[1:3])) for line in DIALOGUE]
-    if with_numbers:
-        frames += [(line, command_frame(*line[1:3], sequence=1)) for line in NUMBERED]
-    return frames + [(LAST, command_frame(*LAST[1:3]))]
+    return frames_of(DIALOGUE) + (frames_of(NUMBERED, 1) if with_numbers else []) + frames_of([LAST])
 
 
 def show_exchange(frame, reply, what=""):
@@ -448,9 +482,10 @@ def show_line(line, frame, reply):
     return True
 
 
-def demo(words, with_numbers):
+def play(words, frames):
+    """Each command once the reply to the one before it is there."""
     with Module(words) as module:
-        for line, frame in dialogue_frames(with_numbers):
+        for line, frame in frames:
             if not show_line(line, frame, module.ask_frame(frame)):
                 return 1
         status = module.end()
@@ -458,9 +493,8 @@ def demo(words, with_numbers):
     return status
 
 
-def demo_at_once(words, with_numbers):
+def play_at_once(words, frames):
     """All commands in one piece, for a build that reads its input whole. Its messages are dropped."""
-    frames = dialogue_frames(with_numbers)
     process = subprocess.Popen(words, stdin=subprocess.PIPE, stdout=subprocess.PIPE, stderr=subprocess.DEVNULL)
     process.stdin.write(b"".join(frame for _, frame in frames))
     process.stdin.close()
@@ -471,6 +505,49 @@ def demo_at_once(words, with_numbers):
         if not show_line(line, frame, reply):
             return 1
     return process.wait()
+
+
+def over_files(program, word, names, room, at_once):
+    """The command for a word and the names of its files, which lie in this folder. `rt try` is told where each lies."""
+    paths = [os.path.join(room, name) for name in names]
+    if at_once:
+        told = [part for name, path in zip(names, paths) for part in ("--data", f"{name}={path}")]
+        return [*program, *told, "--", word, *names]
+    return [*program, word, *paths]
+
+
+def write_file(room, name, content):
+    with open(os.path.join(room, name), "wb") as file:
+        file.write(content)
+
+
+def make_files(program, room, at_once):
+    """Makes an image, its digest by the program itself, and noise for one pass of the tests. Says whether the digest is right."""
+    image = b"abc"
+    write_file(room, "image", image)
+    asked = over_files(program, "digest", ["image"], room, at_once)
+    line = subprocess.run(asked, stdin=subprocess.DEVNULL, stdout=subprocess.PIPE, stderr=subprocess.DEVNULL).stdout
+    write_file(room, "digest", line)
+    write_file(room, "noise", os.urandom(1408))
+    print(f"The image has {len(image)} bytes, and the digest {line.decode('ascii', 'replace').strip()}")
+    if line != image_digest(image).encode() + b"\n":
+        print(f"    THIS IS NOT WHAT WAS EXPECTED: {image_digest(image)}")
+        return False
+    return True
+
+
+def demo(program, with_numbers, at_once):
+    how = play_at_once if at_once else play
+    with tempfile.TemporaryDirectory() as room:
+        if not make_files(program, room, at_once):
+            return 1
+        words = over_files(program, "serve", ["image", "digest", "noise"], room, at_once)
+        status = how(words, dialogue_frames(with_numbers))
+        if status != 0:
+            return status
+        write_file(room, "image", b"abd")
+        print("\nThe same module once more, where a byte of the image was changed")
+        return how(words, frames_of(CHANGED))
 
 
 def service_and_body(words):
@@ -514,7 +591,7 @@ def main(words):
     is_numbered, at_once = "--numbered" in options, "--at-once" in options
     options = [word for word in options if word not in ("--numbered", "--at-once")]
     if words[:1] == ["demo"] and program and not options:
-        return (demo_at_once if at_once else demo)(program, is_numbered)
+        return demo(program, is_numbered, at_once)
     if words[:1] == ["talk"] and program and not options:
         return talk(Module(program, is_numbered))
     if words[:1] == ["talk"] and not program and len(options) == 2 and options[0] == "--socket":
