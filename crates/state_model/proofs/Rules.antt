@@ -72,7 +72,7 @@ select_role_kept s role rules allowed =
     let use' = return_for_select_role (state_of s) allowed in
     quiet_kept s _ s.shared.tests_passed rules (role_selected_kept s.shared.public role rules.public use')
     (use_of_passed (role_state role) s.shared.public.tests_done s.shared.tests_passed s.shared.generator (role_is_of_use role)
-        (passed_in_use (state_of s) s.shared.public.tests_done s.shared.tests_passed s.shared.generator use' rules.passed)) (return_is_faultless (state_of s) use')
+    (passed_in_use (state_of s) s.shared.public.tests_done s.shared.tests_passed s.shared.generator use' rules.passed)) (return_is_faultless (state_of s) use')
     (return_is_not_entry (state_of s) use') (return_is_not_entry _ (role_is_of_use role))
 
 -- no sample shows no fault

@@ -73,7 +73,7 @@ tested_by calls engine public tests P passes fails (Some t) = by_right (answers_
 -- what holds of a step's test that passed, and of one that failed, holds of what a step of TestStep tests
 pub step_tested_by : {V : Type 0} (calls : Calls V) (engine : V) (public : PublicState) (tests : ℕ) (image digest : List ℕ) (P : Tested V → Type 0)
     → ((more : ℕ) (engine' : V) → Includes more tests → (public.tests_done ≡ 0 → has_test more test.HmacSha256 ≡ true) → (2 ≤ public.tests_done → has_test more test.Generator ≡ true)
-        → P (record { judgement = record { public = public; tests_passed = more; refused = None }; engine = engine' }))
+    → P (record { judgement = record { public = public; tests_passed = more; refused = None }; engine = engine' }))
     → ((why : Failure) (engine' : V) → IsFailure why → P (record { judgement = record { public = has_failed why public; tests_passed = tests; refused = Some status.TestFailed }; engine = engine' }))
     → P (step_tested calls engine public tests image digest)
 step_tested_by {V} calls engine public tests image digest P passes fails = by_count (n == 0) refl (n == 1) refl

@@ -352,9 +352,7 @@ impl<E: Engine> Module<E> {
             Request::TestStep
             | Request::Hash { .. }
             | Request::Mac { .. }
-            | Request::MacVerify { .. } => {
-                unreachable!()
-            }
+            | Request::MacVerify { .. } => { unreachable!() }
         }
         Status::Ok
     }

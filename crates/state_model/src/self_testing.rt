@@ -123,7 +123,7 @@ pub fn seed_when_due<E: Engine, N: Noise>(
     requires tested { judged.refused ≢ Some Status.NoiseFault }
     ensures seeded { Explained (N.left noise.old) (N.left noise.new) (λ events left. (samples : List ℕ) → Counts parts.old.health samples →
         IsSeeded (seeded_when E.calls parts.old.engine parts.old.drbg samples events (is_seed_due judged.public judged.refused)) judged
-            parts.new.engine parts.new.drbg parts.new.health result left) }
+        parts.new.engine parts.new.drbg parts.new.health result left) }
     ensures vault { parts.new.vault ≡ parts.old.vault }
     ensures noise_failed { result.refused ≡ Some Status.NoiseFault → result.public.error_code ≡ 0x0400 → FaultCounted (N.faults noise.old) (N.faults noise.new) }
 {
