@@ -1,5 +1,5 @@
 -- The definition of the program's output leaves nothing open.
-use Rattle.std.proofs.Common.{◌≡◌, inl, inr, ℕ, List, [], Option, Some, None, length, take, sym, ◌∙◌, ap, subst}
+use Rattle.std.proofs.Common.{◌≡◌, inl, inr, ℕ, List, Option, Some, None, length, take, sym, ◌∙◌, ap, subst}
 use Rattle.std.proofs.lemmas.Bool.{cases_lt}
 use Rattle.engine_core.specs.Calls.{Calls}
 use Rattle.outside.specs.declared.traits.Sample.{Sample}

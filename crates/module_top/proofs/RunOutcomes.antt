@@ -1,28 +1,24 @@
 -- What a run leaves, by where it ended; and from there the program's output.
 use Rattle.std.proofs.Common.{◌≡◌, ◌≢◌, ◌≤◌, ◌++◌, inl, inr, Bool, true, false, ℕ, List, [], Option, Some, None, IfSome, refl, sym, ◌∙◌, ap, subst, length, arith, append-nil}
 use Rattle.std.specs.Prelude.{◌↔◌, ◌⊎◌, MatchOption}
-use Rattle.std.proofs.lemmas.Bool.{cases_eq}
 use Rattle.engine_core.specs.Calls.{Calls}
-use Rattle.outside.specs.Contents.{Appends}
 use Rattle.outside.specs.Faults.{FaultCounted}
 use Rattle.outside.specs.FilesContent.{FilesContent, HasFile}
 use Rattle.outside.specs.Explained.{Explained}
 use Rattle.outside.specs.declared.traits.Sample.{Sample}
 use Rattle.state_model.specs.MachineState.{initial_state}
 use Rattle.module_top.specs.declared.faults.RunFault.{RunFault}
-use Rattle.module_top.specs.declared.faults.RunFault.TheVariants as fault
 use Rattle.module_top.specs.declared.limits.TheConstants.{CHUNK, LARGEST_IMAGE}
 use Rattle.module_top.specs.declared.serving.Ended.{Ended}
 use Rattle.module_top.specs.declared.serving.Ended.TheVariants as ended
 use Rattle.module_top.specs.DigestFile.{digest_of}
 use Rattle.module_top.specs.Faults.{status_of}
 use Rattle.module_top.specs.FrameGrammar.{frame_grammar, frame_grammar_is_lawful}
-use Rattle.module_top.specs.PartialWrites.{AppendsPart}
 use Rattle.module_top.specs.Serving.{Streams}
 use Rattle.module_top.specs.Program.{FormValue, Serve, Digest, exit_status, digest_line, ServesStream, HasNoise, IsRefused, IsOutputOf}
 use Rattle.module_top.specs.Outcomes.{is_refusal, named_image, HasLongImage, HasBadDigest, IsServed, IsDigested, IsWorkOf, Outside, IsOutcome, ImageRefused, DigestRefused}
 use Rattle.module_top.proofs.NamedFiles.{not_long, long_first, not_bad}
-use Rattle.module_top.proofs.ProgramOutputs.{never_usage, read_fault_of, write_fault_of, output_of}
+use Rattle.module_top.proofs.ProgramOutputs.{read_fault_of, write_fault_of, output_of}
 
 -- where files tell, a fact about them gives another
 told : {P Q : FilesContent → Type 0} (files : Option FilesContent) → ((all : FilesContent) → P all → Q all) → IfSome files P → IfSome files Q

@@ -1,5 +1,5 @@
 // The program, from its words, its files and its input to its exit status and its output.
-ghost use Rattle.std.specs.Prelude.{◌≡◌, ◌≢◌, ◌↔◌, ◌++◌, [], ℕ, List, Some, None, false, true, IfOk, IfSome, OnErr, map};
+ghost use Rattle.std.specs.Prelude.{◌≡◌, ◌≢◌, ◌↔◌, ◌++◌, ℕ, List, Some, None, false, true, IfOk, IfSome, OnErr, map};
 ghost use Rattle.std.specs.String.{string_bytes};
 ghost use Rattle.outside.specs.Explained.{Explained};
 ghost use Rattle.outside.specs.Faults.{FaultCounted};
@@ -9,7 +9,7 @@ ghost use Rattle.state_model.specs.MachineState.{initial_state};
 ghost use Rattle.module_top.specs.FrameGrammar.{frame_grammar};
 ghost use Rattle.module_top.specs.Serving.{Serves};
 ghost use Rattle.module_top.specs.Faults.{result_status};
-ghost use Rattle.module_top.specs.Program.{FormValue, Serve, Digest, form_of, exit_status, IsProgramOutput};
+ghost use Rattle.module_top.specs.Program.{Serve, Digest, form_of, exit_status, IsProgramOutput};
 ghost use Rattle.module_top.specs.Outcomes.{is_refusal, HasLongImage, HasBadDigest, IsWorkOf, IsOutcome};
 
 use crate::digesting::digest_image;

@@ -1,7 +1,6 @@
-use Rattle.std.proofs.Common.{◌≡◌, ◌≢◌, ◌++◌, ℕ, List, Option, Some, IfSome, refl, sym, ◌∙◌, ap, subst}
+use Rattle.std.proofs.Common.{◌≡◌, ◌≢◌, ◌++◌, ℕ, List, Some, IfSome, refl, sym, ◌∙◌, ap, subst}
 use Rattle.std.specs.Prelude.{◌↔◌, map}
 use Rattle.std.specs.String.{string_bytes}
-use Rattle.outside.specs.FilesContent.{FilesContent}
 use Rattle.module_top.specs.Program.{form_of, IsProgramOutput}
 use Rattle.module_top.specs.Outcomes.{HasLongImage, HasBadDigest}
 use Rattle.module_top.proofs.RunOutcomes.{program_output}

@@ -1,4 +1,4 @@
-use Rattle.std.proofs.Common.{◌≡◌, ℕ, List, Option, Some, IfSome, sym, ◌∙◌, ap, subst}
+use Rattle.std.proofs.Common.{◌≡◌, List, Option, Some, IfSome, ◌∙◌, subst}
 use Rattle.outside.specs.FilesContent.{FilesContent, HasFile}
 use Rattle.outside.specs.declared.traits.Sample.{Sample}
 use Rattle.module_top.specs.Program.{HasNoise}
