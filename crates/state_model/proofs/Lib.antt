@@ -17,3 +17,4 @@ pub mod Replying
 pub mod DataInRoles
 pub mod Zeroising
 pub mod Numbering
+pub mod Meanings

@@ -6,6 +6,7 @@ pub mod Management
 pub mod Cryptographic
 pub mod Step
 pub mod Laws
+pub mod Meaning
 pub mod ModuleView
 pub mod Represents
 pub mod ModuleInvariant

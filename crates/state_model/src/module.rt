@@ -11,6 +11,7 @@ ghost use Rattle.module_frames.specs.PublicEffects.{is_period_over, sent_to_test
 ghost use Rattle.bits_core.specs.Parameters.{length_fits};
 ghost use Rattle.bits_core.specs.declared.limits.TheConstants.{LARGEST_PAYLOAD};
 ghost use Rattle.bits_core.specs.OutboxContents.{holding};
+ghost use Rattle.engine_core.specs.Calls.{IsStandard};
 ghost use Rattle.crypto_services.specs.AtSlots.{slot_at};
 ghost use Rattle.state_model.specs.MachineState.{MachineState, initial_state, state_of};
 ghost use Rattle.state_model.specs.Management.{power_on, request_tests, test_step, select_role, reset, entry_begin, entry_bytes, entry_commit, entry_over, zeroise, zeroise_all};
@@ -20,6 +21,7 @@ ghost use Rattle.state_model.specs.SelfTesting.{stepped_with};
 ghost use Rattle.state_model.specs.SlotBlock.{header_block, slot_block};
 ghost use Rattle.state_model.specs.Permission.{IsPermittedIn};
 ghost use Rattle.state_model.specs.Represents.{Represents, IsRepresented, IsServiceResult, Replies};
+ghost use Rattle.state_model.specs.Meaning.{AnswersByTheStandards};
 
 use crate::commit::commit;
 use crate::cryptographic::run_cryptographic_service;
@@ -442,6 +444,8 @@ impl<E: Engine> Module<E> {
         // That the noise failed is told only where its count of faults rose.
         ensures noise_failed { reply.new.status ≡ Status.NoiseFault → reply.new.code ≡ 0x0400 → FaultCounted (N.faults noise.old) (N.faults noise.new) }
         ensures represented { IsRepresented self.new }
+        // With a standard engine, what a cryptographic service gives is the standard's value, with any noise.
+        ensures meaning { IsStandard E.calls → AnswersByTheStandards command.now self.old.vault.slots reply.new.status reply.new.payload.bytes }
     {
         // Opened, so that the module's rules are known of what it finds.
         let _ = &self.public;
