@@ -1,13 +1,13 @@
 -- What the cryptographic services give where the engine is standard, and when they are done.
 use Rattle.std.proofs.Common.{◌≡◌, ◌≢◌, ◌↔◌, ◌≤◌, ℕ, List, [], Bool, true, false, Option, Some, None, length, take, refl, sym, ap, subst, ◌∙◌, arith, if◌then◌else◌}
-use Rattle.std.specs.Prelude.{◌==◌, bytes_eq, IfSome}
+use Rattle.std.specs.Prelude.{◌==◌, IfSome}
 use Rattle.std.specs.Bool.{Decides}
 use Rattle.std.proofs.lemmas.Bool.{false≢true}
 use Rattle.std.proofs.lemmas.List.{take-append-le}
 use Rattle.std.proofs.lemmas.Slice.Eq.{bytes_eq-Decides}
 use Rattle.bits_core.specs.declared.algorithm.Alg.{Alg}
 use Rattle.bits_core.specs.Algorithms.{alg_size}
-use Rattle.bits_core.specs.ByteList.{zeros, zero_padded}
+use Rattle.bits_core.specs.ByteList.{zero_padded}
 use Rattle.bits_core.specs.declared.parameter.Kind.TheVariants as kind
 use Rattle.hmac_core.specs.Hmac.{hmac}
 use Rattle.hmac_core.proofs.Lengths.{length-hmac, take-padded_digest}

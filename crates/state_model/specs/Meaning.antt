@@ -1,5 +1,5 @@
 -- What the cryptographic services mean where the engine answers as the standards say, and when they are done.
-use Rattle.std.specs.Prelude.{◌≡◌, ◌≢◌, ◌↔◌, ℕ, List, length, take, Option, Some, None, IfSome, true}
+use Rattle.std.specs.Prelude.{◌≡◌, ◌≢◌, ◌↔◌, ℕ, List, length, take, Some, None, IfSome, true}
 use Rattle.bits_core.specs.declared.algorithm.Alg.{Alg}
 use Rattle.bits_core.specs.declared.parameter.Kind.TheVariants as kind
 use Rattle.hmac_core.specs.Hash.{hash}

@@ -1,7 +1,6 @@
 use Rattle.std.proofs.Common.{[], sym, subst, ap, ◌∙◌}
 use Rattle.outside.proofs.Explanations.{explained_by}
 use Rattle.state_model.specs.ModuleView.{ModuleView}
-use Rattle.state_model.specs.ModuleInvariant.{view_of}
 use Rattle.state_model.specs.Represents.{Represents, IsRepresented}
 use Rattle.state_model.specs.Step.{step}
 use Rattle.state_model.proofs.Meanings.{answer_means}
