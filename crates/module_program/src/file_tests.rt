@@ -27,9 +27,15 @@ fn is_approved(alloc: Global, image: Vec<u8>, digest: &[u8]) -> Result<bool, Fai
 
 #[test]
 fn takes_an_image_that_has_its_digest(rt: HostRuntime) -> Result<(), Fail> {
-    let zeros = vec![in rt.alloc(); 0; 16_777_216]?;
     assert!(rt; is_approved(rt.alloc(), IMAGE.to_vec(rt.alloc())?, DIGEST)?);
     assert!(rt; is_approved(rt.alloc(), Vec::new(rt.alloc()), EMPTY_DIGEST)?);
+    Ok(())
+}
+
+// Without optimisation, as `rt try` builds it, this takes most of its 60 seconds.
+#[test]
+fn takes_the_longest_image(rt: HostRuntime) -> Result<(), Fail> {
+    let zeros = vec![in rt.alloc(); 0; 16_777_216]?;
     assert!(rt; is_approved(rt.alloc(), zeros, ZEROS_DIGEST)?);
     Ok(())
 }

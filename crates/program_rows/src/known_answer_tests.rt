@@ -5,6 +5,7 @@ use crate::runs::{
 use crate::service_rows::{HASH_256_ABC, HASH_256_ABC_TURNED};
 use crate::service_tests::{POWER_ON, REQUEST_TESTS, RESET, TESTED, UP, USER};
 use engine_core::Faulty;
+use std::alloc::Global;
 use std::test::Fail;
 
 // The next test of TestStep answers what it shouldn't.
@@ -74,44 +75,33 @@ fn fail(
 
 const TWO_STEPS: [Row<'static>; 3] = [REQUEST_TESTS, TESTED, TESTED];
 
-// A generator's test makes three calls, numbers 7 to 9 of an engine. Where it fails no noise is taken. After Reset, tests that are
-// asked for fail again.
+// Whether a test that is due fails over this engine, and again where tests are asked for after a Reset. No noise is taken.
+fn is_refused(
+    alloc: Global,
+    engine: Faulty,
+    before: &[Row],
+    code: (u8, u8),
+    shown: Row,
+) -> Result<bool, Fail> {
+    let mut dialogue = Dialogue::new(alloc);
+    play(&mut dialogue, &[POWER_ON])?;
+    fail(&mut dialogue, before, STEP_FAILS, code, shown)?;
+    fail(&mut dialogue, before, STEP_FAILS, code, shown)?;
+    let (status, replies) = outcome_over(alloc, engine, 0, &dialogue.stream, 9)?;
+    Ok(status == 0 && replies.bytes() == dialogue.want.as_slice())
+}
+
+// A generator's test makes three calls, numbers 7 to 9 of an engine.
 #[test]
 fn fails_a_test_that_is_due(rt: HostRuntime) -> Result<(), Fail> {
-    for (engine, before, code, shown) in [
-        (
-            Faulty::new(1, 0, 3),
-            [REQUEST_TESTS].as_slice(),
-            (1, 4),
-            NONE_PASSED,
-        ),
-        (
-            Faulty::new(7, 0, 3),
-            TWO_STEPS.as_slice(),
-            (1, 14),
-            MAC_PASSED,
-        ),
-        (
-            Faulty::new(8, 0, 3),
-            TWO_STEPS.as_slice(),
-            (1, 14),
-            MAC_PASSED,
-        ),
-        (
-            Faulty::new(9, 0, 3),
-            TWO_STEPS.as_slice(),
-            (1, 14),
-            MAC_PASSED,
-        ),
-    ] {
-        let mut dialogue = Dialogue::new(rt.alloc());
-        play(&mut dialogue, &[POWER_ON])?;
-        fail(&mut dialogue, before, STEP_FAILS, code, shown)?;
-        fail(&mut dialogue, before, STEP_FAILS, code, shown)?;
-        let (status, replies) = outcome_over(rt.alloc(), engine, 0, &dialogue.stream, 9)?;
-        assert_eq!(rt; status, 0);
-        assert_eq!(rt; replies.bytes(), dialogue.want.as_slice());
-    }
+    let mac = Faulty::new(1, 0, 3);
+    let instantiate = Faulty::new(7, 0, 3);
+    let reseed = Faulty::new(8, 0, 3);
+    let generate = Faulty::new(9, 0, 3);
+    assert!(rt; is_refused(rt.alloc(), mac, &[REQUEST_TESTS], (1, 4), NONE_PASSED)?);
+    assert!(rt; is_refused(rt.alloc(), instantiate, &TWO_STEPS, (1, 14), MAC_PASSED)?);
+    assert!(rt; is_refused(rt.alloc(), reseed, &TWO_STEPS, (1, 14), MAC_PASSED)?);
+    assert!(rt; is_refused(rt.alloc(), generate, &TWO_STEPS, (1, 14), MAC_PASSED)?);
     Ok(())
 }
 
@@ -198,47 +188,36 @@ const HMAC_512: Row<'static> = (0x12, b"\x03\x03\x01\x00abc", 4, 7, NOTHING);
 // The slot is empty, and the test of HMAC-SHA-256 passed already: nothing fails.
 const EMPTY_SLOT: [Row<'static>; 2] = [USER, (0x11, b"\x03\x01\x20abc", 6, 5, NOTHING)];
 
+// Whether the first use of an algorithm fails over this engine, after these rows.
+fn is_refused_at_first_use(
+    alloc: Global,
+    engine: Faulty,
+    before: &[Row],
+    failing: Row,
+    code: (u8, u8),
+    shown: Row,
+) -> Result<bool, Fail> {
+    let mut dialogue = Dialogue::new(alloc);
+    play(&mut dialogue, &UP)?;
+    play(&mut dialogue, &EMPTY_SLOT)?;
+    fail(&mut dialogue, before, failing, code, shown)?;
+    let (status, replies) = outcome_over(alloc, engine, ONE_PASS, &dialogue.stream, 7)?;
+    Ok(status == 0 && replies.bytes() == dialogue.want.as_slice())
+}
+
 // Another algorithm has its own test, and that comes before the slot is looked at, which is empty here.
 #[test]
 fn tests_another_algorithm_at_its_own_first_use(rt: HostRuntime) -> Result<(), Fail> {
+    let digest = Faulty::new(0, 2, 0);
+    let mac = Faulty::new(1, 2, 0);
     let hashed = [HASH_ABC];
-    for (engine, before, failing, code, shown) in [
-        (
-            Faulty::new(0, 2, 0),
-            hashed.as_slice(),
-            SHA_384,
-            (1, 2),
-            HASH_PASSED,
-        ),
-        (
-            Faulty::new(0, 2, 0),
-            hashed.as_slice(),
-            SHA_512,
-            (1, 3),
-            HASH_PASSED,
-        ),
-        (
-            Faulty::new(1, 2, 0),
-            [].as_slice(),
-            HMAC_384,
-            (1, 5),
-            BOTH_PASSED,
-        ),
-        (
-            Faulty::new(1, 2, 0),
-            [].as_slice(),
-            HMAC_512,
-            (1, 6),
-            BOTH_PASSED,
-        ),
-    ] {
-        let mut dialogue = Dialogue::new(rt.alloc());
-        play(&mut dialogue, &UP)?;
-        play(&mut dialogue, &EMPTY_SLOT)?;
-        fail(&mut dialogue, before, failing, code, shown)?;
-        let (status, replies) = outcome_over(rt.alloc(), engine, ONE_PASS, &dialogue.stream, 7)?;
-        assert_eq!(rt; status, 0);
-        assert_eq!(rt; replies.bytes(), dialogue.want.as_slice());
-    }
+    assert!(rt;
+        is_refused_at_first_use(rt.alloc(), digest, &hashed, SHA_384, (1, 2), HASH_PASSED)?
+    );
+    assert!(rt;
+        is_refused_at_first_use(rt.alloc(), digest, &hashed, SHA_512, (1, 3), HASH_PASSED)?
+    );
+    assert!(rt; is_refused_at_first_use(rt.alloc(), mac, &[], HMAC_384, (1, 5), BOTH_PASSED)?);
+    assert!(rt; is_refused_at_first_use(rt.alloc(), mac, &[], HMAC_512, (1, 6), BOTH_PASSED)?);
     Ok(())
 }
