@@ -1,0 +1,4 @@
+pub mod Substitutions
+pub mod Schedules
+pub mod CounterBlocks
+pub mod Sealing
