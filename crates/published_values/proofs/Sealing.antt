@@ -1,5 +1,5 @@
 -- GCM with an IV of 96 bits, by whole counter blocks.
-use Rattle.std.proofs.Common.{◌≡◌, ℕ, ◌+◌, ◌*◌, ◌/◌, ◌≤◌, ◌==◌, Bool, true, List, [], ◌∷◌, ◌++◌, length, refl, ap, ◌∙◌, arith, if◌then◌else◌}
+use Rattle.std.proofs.Common.{◌≡◌, ℕ, ◌+◌, ◌/◌, ◌==◌, List, [], ◌∷◌, ◌++◌, length, refl, ap, ◌∙◌, arith, if◌then◌else◌}
 use Rattle.bits_core.specs.ByteList.{zeros}
 use Rattle.aes_spec.specs.Key.{aes}
 use Rattle.aes_spec.specs.Gctr.{gctr, inc32}

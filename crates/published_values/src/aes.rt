@@ -6,19 +6,20 @@ ghost use Rattle.aes_spec.specs.Key.{schedule_words, aes, aes_inverse};
 ghost use Rattle.published_values.specs.Bytes.{bytes};
 ghost use Rattle.published_values.specs.Tables.{sbox, inverse_sbox};
 
-/// The products of the text in GF(2^8) (section 4.2).
+/// Two products of bytes that the standard works out (section 4.2).
 pub fn field_products()
     ensures by_83 { times 0x57 0x83 ≡ 0xc1 }
     ensures by_13 { times 0x57 0x13 ≡ 0xfe }
 {}
 
-/// The substitution of every byte (table 4) and its inverse (table 6).
+/// The substitution of 53 is ed (section 5.1.1); that of every byte (table 4), and its inverse (table 6).
 pub fn substitution_tables()
+    ensures of_53 { sub_byte 0x53 ≡ 0xed }
     ensures forward { map sub_byte (range_with_len 0 256) ≡ sbox }
     ensures backward { map inv_sub_byte (range_with_len 0 256) ≡ inverse_sbox }
 {}
 
-/// The last four words of the schedules of the examples (appendix A.1 to A.3), which come of all others.
+/// The last four words of the schedules of the examples (appendix A.1 to A.3), to which all others lead.
 pub fn key_expansions()
     ensures of_128 { drop 40 (schedule_words (bytes 16 0x2b7e151628aed2a6abf7158809cf4f3c))
         ≡ bytes 4 0xd014f9a8 ∷ bytes 4 0xc9ee2589 ∷ bytes 4 0xe13f0cc8 ∷ bytes 4 0xb6630ca6 ∷ [] }
@@ -28,7 +29,7 @@ pub fn key_expansions()
         ≡ bytes 4 0xfe4890d1 ∷ bytes 4 0xe6188d0b ∷ bytes 4 0x046df344 ∷ bytes 4 0x706c631e ∷ [] }
 {}
 
-/// A block under a key of each length, and back (appendix B, and appendix C.1 to C.3 of the edition of 2001).
+/// A block under a key of each length (appendix B, and appendix C.1 to C.3 of the edition of 2001), and back under one of 128 bits.
 pub fn ciphers()
     ensures example { aes (bytes 16 0x2b7e151628aed2a6abf7158809cf4f3c) (bytes 16 0x3243f6a8885a308d313198a2e0370734)
         ≡ bytes 16 0x3925841d02dc09fbdc118597196a0b32 }

@@ -4,8 +4,8 @@ ghost use Rattle.hmac_core.specs.Blocks.{joined};
 ghost use Rattle.kbkdf_core.specs.CounterMode.{fixed_input, key_block};
 ghost use Rattle.published_values.specs.Bytes.{bytes};
 
-/// The fixed input is label, 00, context and the length in bits (section 4.1); and the first output of the NIST's CAVS for counter mode
-/// with HMAC-SHA-256 and a counter of 32 bits before the fixed input, which that case gives as one string.
+/// The fixed input is label, 00, context and the length in bits (section 4.1); and the output of the first case of the NIST's CAVS for
+/// counter mode with HMAC-SHA-256 and a counter of 32 bits before the fixed input, which that case gives as one string.
 pub fn derived_key()
     ensures input { fixed_input (bytes 5 0x6c6162656c) (bytes 7 0x636f6e74657874) 256 ≡ bytes 17 0x6c6162656c00636f6e7465787400000100 }
     ensures output { take 16 (joined (key_block (bytes 32 0xdd1d91b7d90b2bd3138533ce92b272fbf8a369316aefe242e659cc0ae238afe0)

@@ -1,4 +1,4 @@
-//! Known answers of the published standards, as laws of the definitions. What they cite is called nowhere: each is computed in the logic.
+//! Known answers of the published standards, as laws of the definitions: each is computed in the logic, and no code is called.
 #![tactic(auto)]
 
 mod aes;

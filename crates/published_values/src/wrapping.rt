@@ -2,11 +2,11 @@
 ghost use Rattle.std.specs.Prelude.{◌≡◌, Some};
 ghost use Rattle.aes_spec.specs.Key.{aes};
 ghost use Rattle.key_wrap.specs.Wrapping.{kw, kwp, padded};
-ghost use Rattle.key_wrap.specs.Unwrapping.{unkw, unkwp};
+ghost use Rattle.key_wrap.specs.Unwrapping.{unkwp};
 ghost use Rattle.published_values.specs.Bytes.{bytes};
 
 /// KW of 128 bits under a key of 128 (RFC 3394, 4.1), and KWP of 7 bytes under a key of 192 bits (RFC 5649, section 6), whose block
-/// begins with the check value and the length; and both back.
+/// begins with the check value and the length; and what KWP wrapped, unwrapped again.
 pub fn wrapped_keys()
     ensures kw { kw (aes (bytes 16 0x000102030405060708090a0b0c0d0e0f)) (bytes 16 0x00112233445566778899aabbccddeeff)
         ≡ bytes 24 0x1fa68b0a8112b447aef34bd8fb5a7b829d3e862371d2cfe5 }

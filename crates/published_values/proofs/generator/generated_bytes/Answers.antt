@@ -1,9 +1,9 @@
-use Rattle.std.proofs.Common.{◌≡◌, ℕ, List, [], ◌++◌, refl, ap, ◌∙◌}
+use Rattle.std.proofs.Common.{◌≡◌, [], ◌++◌, refl, ap, ◌∙◌}
 use Rattle.sha2.specs.Sha256 as Small
 use Rattle.hmac_core.specs.Hmac.{block_key, inner_key, outer_key, hmac}
 use Rattle.hmac_core.specs.Blocks.{joined}
 use Rattle.drbg_core.specs.declared.generator.Drbg.{Drbg}
-use Rattle.drbg_core.specs.Generator.{Generated, mix, update, instantiate, value_after, primed, drawn, generate}
+use Rattle.drbg_core.specs.Generator.{mix, update, instantiate, value_after, primed, drawn, generate}
 use Rattle.published_values.specs.Bytes.{bytes}
 use Rattle.published_values.proofs.generator.generated_bytes.Goals as goal
 
