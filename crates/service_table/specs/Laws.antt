@@ -1,6 +1,5 @@
 -- What the table is for: what holds of all its rows.
 use Rattle.std.specs.Prelude.{◌≡◌, ◌+◌, ◌↔◌, ◌⊎◌, ◌==◌, ◌≤◌, ◌||◌, ◌&&◌, not, ℕ, Bool, true, false, Some, None, nat_le, Option, List, [], ◌∷◌}
-use Rattle.std.specs.List.{list_any}
 use Rattle.bits_core.specs.declared.algorithm.Alg.{Alg}
 use Rattle.bits_core.specs.Algorithms.{alg_number}
 use Rattle.service_table.specs.declared.class.Class.TheVariants as class
