@@ -4,6 +4,8 @@
 mod bodies;
 mod command;
 mod derive_body;
+#[cfg(test)]
+mod filling_tests;
 mod frames;
 mod generator_bodies;
 mod head;
@@ -12,6 +14,8 @@ mod public_state;
 mod reply;
 mod request;
 mod sealing_bodies;
+#[cfg(test)]
+mod sealing_tests;
 mod shared_parts;
 #[cfg(test)]
 mod tests;
