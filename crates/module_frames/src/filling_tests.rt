@@ -260,10 +260,17 @@ fn broken_derivations_are_refused(rt: HostRuntime) {
 }
 
 // Whether a request draws so many bytes, with this additional input.
-fn draws(body: &[u8], long: usize, input: &[u8]) -> bool {
-    match read_request(Random, body) {
-        Some(Request::Random { length, additional }) => length == long && additional == input,
+fn draws(request: &Request, long: usize, input: &[u8]) -> bool {
+    match request {
+        Request::Random { length, additional } => *length == long && *additional == input,
         _ => false,
+    }
+}
+
+fn draws_for(body: &[u8], long: usize, input: &[u8]) -> bool {
+    match read_request(Random, body) {
+        Some(request) => draws(&request, long, input),
+        None => false,
     }
 }
 
@@ -271,10 +278,10 @@ fn draws(body: &[u8], long: usize, input: &[u8]) -> bool {
 fn requests_for_random_bytes_are_read(rt: HostRuntime) {
     let mut body = [0; 261];
     body[3] = 1;
-    assert!(rt; draws(b"\0\0\0\x01", 1, b""));
-    assert!(rt; draws(b"\0\0\x01\x02input", 258, b"input"));
-    assert!(rt; draws(b"\0\x01\0\0input", 65_536, b"input"));
-    assert!(rt; draws(&body[..260], 1, &[0; 256]));
+    assert!(rt; draws_for(b"\0\0\0\x01", 1, b""));
+    assert!(rt; draws_for(b"\0\0\x01\x02input", 258, b"input"));
+    assert!(rt; draws_for(b"\0\x01\0\0input", 65_536, b"input"));
+    assert!(rt; draws_for(&body[..260], 1, &[0; 256]));
     assert!(rt; read_request(Random, &body).is_none());
     let refused: [&[u8]; 5] = [
         b"",
@@ -288,29 +295,38 @@ fn requests_for_random_bytes_are_read(rt: HostRuntime) {
     }
 }
 
+// Whether a request reseeds with this additional input.
+fn reseeds(request: &Request, input: &[u8]) -> bool {
+    match request {
+        Request::Reseed { additional } => *additional == input,
+        _ => false,
+    }
+}
+
 #[test]
 fn reseeds_are_read(rt: HostRuntime) {
     let body = [7; 257];
     for size in [0usize, 1, 255, 256] {
         let read = match read_request(Reseed, &body[..size]) {
-            Some(Request::Reseed { additional }) => additional == &body[..size],
-            _ => false,
+            Some(request) => reseeds(&request, &body[..size]),
+            None => false,
         };
         assert!(rt; read);
     }
     assert!(rt; read_request(Reseed, &body).is_none());
 }
 
-// Whether a request draws a parameter: slot, kind, domain, export flag, uses and length.
-fn generates(body: &[u8], told: (u8, u8, u8, bool, u32, usize)) -> bool {
-    match read_request(Generate, body) {
-        Some(
-            Request::Generate {
-                target,
-                header,
-                length,
-            },
-        ) => {
+// What a request tells of a parameter that is drawn: slot, kind, domain, export flag, uses and length.
+type Drawn = (u8, u8, u8, bool, u32, usize);
+
+// Whether a request draws this parameter.
+fn generates(request: &Request, told: Drawn) -> bool {
+    match request {
+        Request::Generate {
+            target,
+            header,
+            length,
+        } => {
             let (kind, domain) = (header.kind.number(), header.domain.number());
             told == (
                 target.get(),
@@ -318,16 +334,23 @@ fn generates(body: &[u8], told: (u8, u8, u8, bool, u32, usize)) -> bool {
                 domain,
                 header.export,
                 header.uses,
-                length,
+                *length,
             )
         }
         _ => false,
     }
 }
 
+fn generates_from(body: &[u8], told: Drawn) -> bool {
+    match read_request(Generate, body) {
+        Some(request) => generates(&request, told),
+        None => false,
+    }
+}
+
 #[test]
 fn generations_are_read(rt: HostRuntime) {
-    let rows: [([u8; 9], (u8, u8, u8, bool, u32, usize)); 3] = [
+    let rows: [([u8; 9], Drawn); 3] = [
         (*b"\x05\x03\x01\x01\0\0\0\x07\x0e", (5, 3, 1, true, 7, 14)),
         (
             *b"\x00\x01\x00\x00\x01\x02\x03\x04\x20",
@@ -339,7 +362,7 @@ fn generations_are_read(rt: HostRuntime) {
         ),
     ];
     for (body, told) in rows {
-        assert!(rt; generates(&body, told));
+        assert!(rt; generates_from(&body, told));
         assert!(rt; read_request(Generate, &body[..8]).is_none());
     }
     // The slot; the kind, twice; the domain; the export flag; the uses; the length, twice.
@@ -361,12 +384,20 @@ fn generations_are_read(rt: HostRuntime) {
     }
 }
 
+// Whether a request makes this slot zero, and all that was made from it.
+fn zeroises_tree(request: &Request, number: u8) -> bool {
+    match request {
+        Request::ZeroiseTree { slot } => slot.get() == number,
+        _ => false,
+    }
+}
+
 #[test]
 fn zeroised_trees_are_read(rt: HostRuntime) {
     for number in 0..16u8 {
         let read = match read_request(ZeroiseTree, &[number]) {
-            Some(Request::ZeroiseTree { slot }) => slot.get() == number,
-            _ => false,
+            Some(request) => zeroises_tree(&request, number),
+            None => false,
         };
         assert!(rt; read);
     }
