@@ -51,7 +51,7 @@ fn mac_header(domain: Domain, uses: u32) -> Header
 fn outcome(status: Status, approved: bool) -> Outcome {
     Outcome {
         status,
-        code: 0,
+        failure: None,
         approved,
     }
 }
