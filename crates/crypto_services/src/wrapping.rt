@@ -49,12 +49,12 @@ pub fn wrap<E: Engine>(
     ensures room { port.new.outbox.now.room ≡ port.old.outbox.now.room }
     ensures well_formed { AreWellFormed parts.new.vault }
 {
-    let is_approved = approved(Service::wrapping(pad), 0);
-    let status = match parts.vault.source(kek, Kind::Kek, is_approved) {
-        Err(fault) => status_of(fault),
-        Ok(()) => wrap_second(parts, pad, kek, second, port),
-    };
     let service = Service::wrapping(pad);
+    if let Err(fault) = parts.vault.source(kek, Kind::Kek, approved(service, 0)) {
+        let status = status_of(fault);
+        return with_indicator(service, 0, &[kek, second], status, &parts.vault);
+    }
+    let status = wrap_second(parts, pad, kek, second, port);
     with_indicator(service, 0, &[kek, second], status, &parts.vault)
 }
 
@@ -141,12 +141,12 @@ pub fn unwrap<E: Engine>(
     ensures room { port.new.outbox.now.room ≡ port.old.outbox.now.room }
     ensures well_formed { AreWellFormed parts.new.vault }
 {
-    let is_approved = approved(Service::unwrapping(pad), 0);
-    let status = match parts.vault.source(kek, Kind::Kek, is_approved) {
-        Err(fault) => status_of(fault),
-        Ok(()) => unwrap_into(parts, pad, kek, target, kind, export, uses, wrapped),
-    };
     let service = Service::unwrapping(pad);
+    if let Err(fault) = parts.vault.source(kek, Kind::Kek, approved(service, 0)) {
+        let status = status_of(fault);
+        return with_indicator(service, 0, &[kek, target], status, &parts.vault);
+    }
+    let status = unwrap_into(parts, pad, kek, target, kind, export, uses, wrapped);
     with_indicator(service, 0, &[kek, target], status, &parts.vault)
 }
 
