@@ -1,7 +1,8 @@
 -- A source and a second slot: what is done where the source is refused, where the second slot is, and where neither is.
-use Rattle.std.proofs.Common.{◌≡◌, ◌<◌, ℕ, Bool, true, false, not, List, length, Option, Some, None, Unit, tt, refl, sym, ap, subst, ◌∙◌, if◌then◌else◌}
+use Rattle.std.proofs.Common.{◌≡◌, ◌<◌, ℕ, Bool, true, false, not, List, [], length, Option, Some, None, refl, sym, ap, subst, ◌∙◌, inl, inr, if◌then◌else◌}
 use Rattle.std.specs.Option.{option_map, option_map_or}
-use Rattle.std.proofs.lemmas.List.{get_or-set_same}
+use Rattle.std.proofs.lemmas.Bool.{cases_lt}
+use Rattle.std.proofs.lemmas.List.{get_or-set_same, get_or_past}
 use Rattle.bits_core.specs.declared.parameter.Domain.{Domain}
 use Rattle.bits_core.specs.declared.parameter.Header.{Header}
 use Rattle.bits_core.specs.declared.parameter.Kind.{Kind}
@@ -124,13 +125,32 @@ pub serves_second : {V : Type 0} (use' : ServiceUse) (old new : Parts V) (vault 
 serves_second {V} use' old new vault first second kind approved service status outcome payload within given spent part told =
     let result : SlotsResult V = on_two_slots old.engine old.vault.slots first second (source kind approved) service in
     let whole : ServesInPart result (record old { vault = vault }) new status payload =
-        subst (λ (r : SlotsResult V). ServesInPart r (record old { vault = vault }) new status payload)
-        (served_after_source old.engine old.vault vault first second kind approved service within given spent) part in
+    subst (λ (r : SlotsResult V). ServesInPart r (record old { vault = vault }) new status payload)
+    (served_after_source old.engine old.vault vault first second kind approved service within given spent) part in
     let before : ServesInPart result (record old { vault = spent_in old.vault first }) new status payload =
-        subst (λ (v : Contents). ServesInPart result (record old { vault = v }) new status payload) spent whole in
+    subst (λ (v : Contents). ServesInPart result (record old { vault = v }) new status payload) spent whole in
     let same : ServesInPart result old new status payload = record {
       leaves = record { engine = before.leaves.engine; vault = before.leaves.vault; generator = before.leaves.generator; health = before.leaves.health };
       same_status = before.same_status;
       same_payload = before.same_payload;
     } in
     serves_by use' result old new status outcome payload same told
+
+-- a source that is given stands among the slots
+pub source_within : (slots : List Slot) (id : ℕ) (kind : Kind) (approved : Bool) → source_fault (slot_at slots id).header kind approved ≡ None → id < length slots
+source_within slots id kind approved given =
+    elim (cases_lt id (length slots)) [
+      | inl within ↦ within
+      | inr past ↦
+          let none : source_fault (slot_at slots id).header kind approved ≡ Some EmptySlot = ap (λ (slot : Slot). source_fault slot.header kind approved) (get_or_past slots id empty_slot past) in
+          not_some EmptySlot (sym none ∙ given)
+    ]
+
+-- a service that is served with no payload, where none was put
+pub serves_silently : {V : Type 0} (use' : ServiceUse) (result : SlotsResult V) (old new : Parts V) (outcome : Outcome) (payload : List ℕ)
+    → payload ≡ [] → Serves use' result old new outcome [] → Serves use' result old new outcome payload
+serves_silently {V} use' result old new outcome payload none served = record {
+  leaves = served.leaves;
+  same_outcome = served.same_outcome;
+  same_payload = none ∙ served.same_payload;
+}

@@ -1,5 +1,6 @@
--- Slots whose parameters are wrapped and unwrapped: lengths, keys, and what is laid into the slots.
+-- Parameters that are wrapped and unwrapped: their lengths, and the keys.
 use Rattle.std.proofs.Common.{◌≡◌, ◌≤◌, ◌%◌, ℕ, Bool, true, false, List, length, take, Option, Some, None, IsTrue, refl, sym, ap, subst, ◌∙◌, arith}
+use Rattle.std.specs.Prelude.{IfSome}
 use Rattle.std.specs.Option.{option_map_or}
 use Rattle.std.proofs.lemmas.Bool.{false≢true}
 use Rattle.std.proofs.lemmas.List.{length-take-le}
@@ -11,18 +12,12 @@ use Rattle.bits_core.specs.declared.parameter.Kind.TheVariants.{Aes, Kek, Mac, K
 use Rattle.bits_core.specs.ByteList.{IsBytes}
 use Rattle.bits_core.specs.Parameters.{is_aes_length, length_fits}
 use Rattle.bits_core.proofs.Bytes.{IsBytes-take}
-use Rattle.engine_core.specs.Calls.{Calls}
-use Rattle.engine_core.specs.Inputs.{IsAesKey, IsWrappable}
-use Rattle.service_table.specs.declared.status.Status.TheVariants as status
+use Rattle.engine_core.specs.Calls.{Calls, Keeps}
+use Rattle.engine_core.specs.Inputs.{IsAesKey, IsWrappable, IsUnwrappable}
+use Rattle.engine_core.specs.Results.{IsUnwrappedLength, wrapped_length}
 use Rattle.ssp_slots.specs.declared.slot.Slot.{Slot}
-use Rattle.ssp_slots.specs.declared.slot_fault.SlotFault.TheVariants.{EmptySlot}
 use Rattle.ssp_slots.specs.PreparedKeys.{is_prepared_kind, has_prepared_key}
-use Rattle.ssp_slots.specs.Refusals.{export_fault, vacancy_fault}
 use Rattle.ssp_slots.specs.Slots.{IsWellFormed, empty_slot, parameter}
-use Rattle.crypto_services.specs.AtSlots.{SlotsResult, slot_at, on_slot, on_no_slot, success, refusal}
-use Rattle.crypto_services.specs.Wrapping.{is_wrappable, wrapping_in, wrap_at, filled_by_unwrapping, unwrap_at, header_under}
-use Rattle.crypto_services.proofs.Sourcing.{laid_back_at}
-use Rattle.crypto_services.proofs.TwoSlots.{not_some, second_given}
 
 -- a parameter has from 1 to 64 bytes
 length_fits-within : (kind : Kind) (domain : Domain) (n : ℕ) → IsTrue (length_fits kind domain n) → (1 ≤ n) × (n ≤ 64)
@@ -51,19 +46,6 @@ parameter_length slot well_formed = (length_of slot.header slot.length slot.byte
 pub parameter_most : (slot : Slot) → IsWellFormed slot → slot.length ≤ 64
 parameter_most slot well_formed = (length_of slot.header slot.length slot.bytes well_formed).1
 
-wrappable_of : (pad : Bool) (n : ℕ) → (1 ≤ n) × (n ≤ 64) → is_wrappable pad n ≡ true → IsWrappable pad n
-wrappable_of true n within is = within
-wrappable_of false n within is = (grind arith, within.1, grind arith)
-
-wrappable_in : (pad : Bool) (header : Option Header) (n : ℕ) (bytes : List ℕ) (domain : Domain)
-    → (let slot : Slot = record { header = header; length = n; bytes = bytes } in IsWellFormed slot) → export_fault header domain ≡ None → is_wrappable pad n ≡ true → IsWrappable pad n
-wrappable_in pad None n bytes domain empty leaves is = not_some EmptySlot leaves
-wrappable_in pad (Some header) n bytes domain holds leaves is = wrappable_of pad n (length_fits-within header.kind header.domain n holds.fits) is
-
--- a parameter that may leave and has a length that can be wrapped
-pub wrappable : (pad : Bool) (slot : Slot) (domain : Domain) → IsWellFormed slot → export_fault slot.header domain ≡ None → is_wrappable pad slot.length ≡ true → IsWrappable pad slot.length
-wrappable pad slot domain well_formed leaves is = wrappable_in pad slot.header slot.length slot.bytes domain well_formed leaves is
-
 aes_length : (kind : Kind) (domain : Domain) (n : ℕ) → is_prepared_kind kind ≡ true → IsTrue (length_fits kind domain n) → IsTrue (is_aes_length n)
 aes_length Aes domain n prepared fits = fits
 aes_length Kek domain n prepared fits = fits
@@ -85,20 +67,28 @@ aes_key_in (Some header) n bytes holds prepared =
 pub aes_key : (slot : Slot) → IsWellFormed slot → has_prepared_key slot ≡ true → IsAesKey (parameter slot)
 aes_key slot well_formed prepared = aes_key_in slot.header slot.length slot.bytes well_formed prepared
 
--- a parameter that may leave is wrapped, and its slot stays
-pub wrapped : {V : Type 0} (calls : Calls V) (engine : V) (pad : Bool) (key : List ℕ) (domain : Domain) (slots : List Slot) (second : ℕ)
-    → export_fault (slot_at slots second).header domain ≡ None → is_wrappable pad (slot_at slots second).length ≡ true
-    → (let text = parameter (slot_at slots second) in
-    on_slot slots second (wrap_at calls engine pad key domain) ≡ on_no_slot (calls.wrap_after engine pad key text) slots (success (wrapping_in (calls.wrap engine pad key text))))
-wrapped {V} calls engine pad key domain slots second leaves fits =
-    let text : List ℕ = parameter (slot_at slots second) in
-    let Laid : List Slot → SlotsResult V = λ (laid : List Slot). on_no_slot (calls.wrap_after engine pad key text) laid (success (wrapping_in (calls.wrap engine pad key text))) in
-    rw leaves (rw fits (ap Laid (laid_back_at slots second)))
+wrapped_length-most : (pad : Bool) (n : ℕ) → IsWrappable pad n → wrapped_length pad n ≤ 80
+wrapped_length-most true n can = omega (arith, can.0, can.1)
+wrapped_length-most false n can = omega (arith, can.0, can.1)
 
--- or isn't, for its length
-pub not_wrapped : {V : Type 0} (calls : Calls V) (engine : V) (pad : Bool) (key : List ℕ) (domain : Domain) (slots : List Slot) (second : ℕ)
-    → export_fault (slot_at slots second).header domain ≡ None → is_wrappable pad (slot_at slots second).length ≡ false
-    → on_slot slots second (wrap_at calls engine pad key domain) ≡ on_no_slot engine slots (refusal status.BadLength)
-not_wrapped {V} calls engine pad key domain slots second leaves fits =
-    let Laid : List Slot → SlotsResult V = λ (laid : List Slot). on_no_slot engine laid (refusal status.BadLength) in
-    rw leaves (rw fits (ap Laid (laid_back_at slots second)))
+-- a wrapping has at most 80 bytes
+pub wrapped_most : {V : Type 0} (calls : Calls V) (keeps : Keeps calls) (engine : V) (pad : Bool) (key text : List ℕ) (n size : ℕ) → IsWrappable pad n → length text ≡ n
+    → size ≡ (calls.wrap engine pad key text).size → size ≤ 80
+wrapped_most {V} calls keeps engine pad key text n size can long is =
+    let whole : IsWrappable pad (length text) = subst (λ (m : ℕ). IsWrappable pad m) (sym long) can in
+    let size_is : size ≡ wrapped_length pad (length text) = is ∙ keeps.wrap_size engine pad key text whole in
+    subst (λ (m : ℕ). m ≤ 80) (sym size_is) (wrapped_length-most pad (length text) whole)
+
+unwrapped_length-most : (pad : Bool) (n : ℕ) (size : Option ℕ) → IsUnwrappable pad n → IfSome size (IsUnwrappedLength pad n) → IfSome size (λ m. m ≤ 80)
+unwrapped_length-most pad n None can told = told
+unwrapped_length-most true n (Some size) can told = omega (arith, can.1, told.1)
+unwrapped_length-most false n (Some size) can told = omega (arith, can.1, told)
+
+-- and what it unwraps to too
+pub unwrapped_most : {V : Type 0} (calls : Calls V) (keeps : Keeps calls) (engine : V) (pad : Bool) (key wrapped text : List ℕ) (size : Option ℕ) → IsAesKey key → IsBytes wrapped
+    → IsUnwrappable pad (length wrapped) → text ≡ wrapped → size ≡ (calls.unwrap engine pad key text).size → IfSome size (λ m. m ≤ 80)
+unwrapped_most {V} calls keeps engine pad key wrapped text size is_key are_bytes can same is =
+    let size_is : size ≡ (calls.unwrap engine pad key wrapped).size = is ∙ ap (λ (t : List ℕ). (calls.unwrap engine pad key t).size) same in
+    let most : IfSome (calls.unwrap engine pad key wrapped).size (λ m. m ≤ 80) =
+    unwrapped_length-most pad (length wrapped) (calls.unwrap engine pad key wrapped).size can (keeps.unwrap_size engine pad key wrapped is_key are_bytes can) in
+    subst (λ (s : Option ℕ). IfSome s (λ m. m ≤ 80)) (sym size_is) most

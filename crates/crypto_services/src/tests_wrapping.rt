@@ -6,9 +6,7 @@ ghost use Rattle.engine_core.specs.Inputs.{IsUnwrappable};
 
 use crate::tests::{expect_uses, outcome, slot_at};
 use crate::{Outcome, Parts, unwrap, wrap};
-use bits_core::{
-    Domain, Enabled, Header, Inhibited, Kind, LARGEST_PAYLOAD, Outbox, Port, SlotId,
-};
+use bits_core::{Domain, Enabled, Header, Inhibited, Kind, LARGEST_PAYLOAD, Outbox, Port, SlotId};
 use engine_core::{Engine, Faulty, Shipped};
 use service_table::Status;
 use ssp_slots::SlotFault;
@@ -158,18 +156,42 @@ fn independent_values_come_out_and_go_in(rt: HostRuntime) -> Result<(), Fail> {
     assert_eq!(rt; outbox.bytes(), PADDED.as_slice());
     expect_uses(&rt, &parts, kek, 3);
     let target = slot_at(4);
-    let answer = unwrap_in(&mut parts, false, kek, target, Kind::Aes, &WRAPPED, &mut outbox);
+    let answer = unwrap_in(
+        &mut parts,
+        false,
+        kek,
+        target,
+        Kind::Aes,
+        &WRAPPED,
+        &mut outbox,
+    );
     assert_eq!(rt; answer, outcome(Status::Ok, true));
     assert_eq!(rt; outbox.bytes().len(), 0);
     let header = header_of(Kind::Aes, Domain::Approved, false, 1);
     expect_parameter(&rt, &parts, target, header, &TEXT[..16]);
     let target = slot_at(5);
-    let answer = unwrap_in(&mut parts, false, kek, target, Kind::Mac, &WRAPPED_LONGEST, &mut outbox);
+    let answer = unwrap_in(
+        &mut parts,
+        false,
+        kek,
+        target,
+        Kind::Mac,
+        &WRAPPED_LONGEST,
+        &mut outbox,
+    );
     assert_eq!(rt; answer, outcome(Status::Ok, true));
     let header = header_of(Kind::Mac, Domain::Approved, false, 1);
     expect_parameter(&rt, &parts, target, header, &TEXT);
     let target = slot_at(6);
-    let answer = unwrap_in(&mut parts, true, kek, target, Kind::Kdf, &PADDED, &mut outbox);
+    let answer = unwrap_in(
+        &mut parts,
+        true,
+        kek,
+        target,
+        Kind::Kdf,
+        &PADDED,
+        &mut outbox,
+    );
     assert_eq!(rt; answer, outcome(Status::Ok, true));
     let header = header_of(Kind::Kdf, Domain::Approved, false, 1);
     expect_parameter(&rt, &parts, target, header, &TEXT[..20]);
@@ -185,7 +207,15 @@ fn the_domain_is_that_of_the_key(rt: HostRuntime) -> Result<(), Fail> {
     let header = header_of(Kind::Kek, Domain::Other, false, 2);
     assert_eq!(rt; put(&mut parts, kek, &header, &KEK), Ok(()));
     let target = slot_at(0);
-    let answer = unwrap_in(&mut parts, true, kek, target, Kind::Mac, &PADDED_ONE, &mut outbox);
+    let answer = unwrap_in(
+        &mut parts,
+        true,
+        kek,
+        target,
+        Kind::Mac,
+        &PADDED_ONE,
+        &mut outbox,
+    );
     assert_eq!(rt; answer, outcome(Status::Ok, false));
     let header = header_of(Kind::Mac, Domain::Other, false, 1);
     expect_parameter(&rt, &parts, target, header, &TEXT[..1]);
@@ -255,9 +285,25 @@ fn unwrap_refuses_in_its_order(rt: HostRuntime) -> Result<(), Fail> {
     let header = header_of(Kind::Aes, Domain::Approved, true, 1);
     assert_eq!(rt; put(&mut parts, full, &header, &TEXT[..16]), Ok(()));
     // The key's slot is empty, and the target is full.
-    let answer = unwrap_in(&mut parts, false, kek, full, Kind::Aes, &WRAPPED, &mut outbox);
+    let answer = unwrap_in(
+        &mut parts,
+        false,
+        kek,
+        full,
+        Kind::Aes,
+        &WRAPPED,
+        &mut outbox,
+    );
     assert_eq!(rt; answer, outcome(Status::EmptySlot, false));
-    let answer = unwrap_in(&mut parts, false, full, target, Kind::Aes, &WRAPPED, &mut outbox);
+    let answer = unwrap_in(
+        &mut parts,
+        false,
+        full,
+        target,
+        Kind::Aes,
+        &WRAPPED,
+        &mut outbox,
+    );
     assert_eq!(rt; answer, outcome(Status::WrongKind, false));
     let header = header_of(Kind::Kek, Domain::Approved, false, 4);
     assert_eq!(rt; put(&mut parts, kek, &header, &KEK), Ok(()));
@@ -265,20 +311,58 @@ fn unwrap_refuses_in_its_order(rt: HostRuntime) -> Result<(), Fail> {
     let answer = unwrap_in(&mut parts, false, kek, full, Kind::Aes, &wrong, &mut outbox);
     assert_eq!(rt; answer, outcome(Status::OccupiedSlot, false));
     expect_uses(&rt, &parts, kek, 3);
-    let answer = unwrap_in(&mut parts, false, kek, target, Kind::Aes, &wrong, &mut outbox);
+    let answer = unwrap_in(
+        &mut parts,
+        false,
+        kek,
+        target,
+        Kind::Aes,
+        &wrong,
+        &mut outbox,
+    );
     assert_eq!(rt; answer, outcome(Status::UnwrapFailed, false));
     expect_uses(&rt, &parts, kek, 2);
     // Twenty bytes are no AES key, and one byte is no approved MAC key.
-    let answer = unwrap_in(&mut parts, true, kek, target, Kind::Aes, &PADDED, &mut outbox);
+    let answer = unwrap_in(
+        &mut parts,
+        true,
+        kek,
+        target,
+        Kind::Aes,
+        &PADDED,
+        &mut outbox,
+    );
     assert_eq!(rt; answer, outcome(Status::BadLength, false));
-    let answer = unwrap_in(&mut parts, true, kek, target, Kind::Mac, &PADDED_ONE, &mut outbox);
+    let answer = unwrap_in(
+        &mut parts,
+        true,
+        kek,
+        target,
+        Kind::Mac,
+        &PADDED_ONE,
+        &mut outbox,
+    );
     assert_eq!(rt; answer, outcome(Status::BadLength, false));
     expect_uses(&rt, &parts, kek, 0);
     // No use is left, and the target is full.
-    let answer = unwrap_in(&mut parts, false, kek, full, Kind::Aes, &WRAPPED, &mut outbox);
+    let answer = unwrap_in(
+        &mut parts,
+        false,
+        kek,
+        full,
+        Kind::Aes,
+        &WRAPPED,
+        &mut outbox,
+    );
     assert_eq!(rt; answer, outcome(Status::Spent, false));
     expect_empty(&rt, &parts, target);
-    expect_parameter(&rt, &parts, full, header_of(Kind::Aes, Domain::Approved, true, 1), &TEXT[..16]);
+    expect_parameter(
+        &rt,
+        &parts,
+        full,
+        header_of(Kind::Aes, Domain::Approved, true, 1),
+        &TEXT[..16],
+    );
     Ok(())
 }
 
@@ -290,7 +374,15 @@ fn a_fault_of_the_engine_shows_in_a_wrapping(rt: HostRuntime) -> Result<(), Fail
     let target = slot_at(1);
     let header = header_of(Kind::Kek, Domain::Approved, false, 1);
     assert_eq!(rt; put(&mut parts, kek, &header, &KEK), Ok(()));
-    let answer = unwrap_in(&mut parts, false, kek, target, Kind::Aes, &WRAPPED, &mut outbox);
+    let answer = unwrap_in(
+        &mut parts,
+        false,
+        kek,
+        target,
+        Kind::Aes,
+        &WRAPPED,
+        &mut outbox,
+    );
     assert_eq!(rt; answer, outcome(Status::UnwrapFailed, false));
     expect_empty(&rt, &parts, target);
     expect_uses(&rt, &parts, kek, 0);
