@@ -1,5 +1,8 @@
 -- What a service does at its slots, and how that is laid into all of them. The rules on slots are this project's own.
 use Rattle.std.specs.Prelude.{ℕ, Bool, List, [], Option, Some, None, slice_index_or, slice_set}
+use Rattle.bits_core.specs.declared.parameter.Domain.{Domain}
+use Rattle.bits_core.specs.declared.parameter.Domain.TheVariants.{Other}
+use Rattle.bits_core.specs.declared.parameter.Header.{Header}
 use Rattle.bits_core.specs.declared.parameter.Kind.{Kind}
 use Rattle.service_table.specs.declared.status.Status.{Status}
 use Rattle.service_table.specs.declared.status.Status.TheVariants as status
@@ -7,7 +10,7 @@ use Rattle.ssp_slots.specs.declared.slot.Slot.{Slot}
 use Rattle.ssp_slots.specs.declared.slot_fault.SlotFault.{SlotFault}
 use Rattle.ssp_slots.specs.declared.slot_fault.SlotFault.TheVariants as fault
 use Rattle.ssp_slots.specs.Refusals.{source_fault}
-use Rattle.ssp_slots.specs.Slots.{empty_slot, spent_slot, parameter}
+use Rattle.ssp_slots.specs.Slots.{empty_slot, filled_slot, spent_slot, parameter}
 
 -- the slot with a number
 abbrev pub slot_at : List Slot → ℕ → Slot
@@ -68,15 +71,25 @@ abbrev pub unless_fault : {V : Type 0} → V → Slot → Option SlotFault → S
 unless_fault engine slot None served = served
 unless_fault engine slot (Some reason) served = refused_at engine slot (fault_status reason)
 
--- A slot as the source of a key: the slot after it, the key, and the reason where it is refused.
+-- the slot is filled with a parameter
+abbrev pub filled_at : {V : Type 0} → V → Header → List ℕ → SlotResult V
+filled_at engine header bytes = record { engine = engine; slot = filled_slot header bytes; answer = success [] }
+
+-- the domain of a slot's parameter; that of an empty slot is looked at by no service
+abbrev pub domain_at : Option Header → Domain
+domain_at None = Other
+domain_at (Some header) = header.domain
+
+-- A slot as the source of a key: the slot after it, the key with its domain, and the reason where it is refused.
 pub record Source : Type 0 where
   pub slot : Slot
   pub key : List ℕ
+  pub domain : Domain
   pub refused : Option Status
 
 abbrev pub source_by : Slot → Option SlotFault → Source
-source_by slot None = record { slot = spent_slot slot; key = parameter slot; refused = None }
-source_by slot (Some reason) = record { slot = slot; key = []; refused = Some (fault_status reason) }
+source_by slot None = record { slot = spent_slot slot; key = parameter slot; domain = domain_at slot.header; refused = None }
+source_by slot (Some reason) = record { slot = slot; key = []; domain = domain_at slot.header; refused = Some (fault_status reason) }
 
 -- one use is spent, and the key goes on; a refusal spends none
 abbrev pub source : Kind → Bool → Slot → Source
@@ -90,12 +103,12 @@ under_key engine slot key (Some reason) after answer = refused_at engine slot re
 abbrev pub on_source : {V : Type 0} → V → Source → (List ℕ → V) → (List ℕ → Answer) → SlotResult V
 on_source engine source after answer = under_key engine source.slot source.key source.refused after answer
 
--- A service on a source and a second slot, which is looked at after a use of the source was spent.
-abbrev pub second_under : {V : Type 0} → V → List Slot → ℕ → List ℕ → Option Status → (List ℕ → Slot → SlotResult V) → SlotsResult V
-second_under engine slots second key None service = on_slot slots second (service key)
-second_under engine slots second key (Some reason) service = on_no_slot engine slots (refusal reason)
+-- A service on a source and a second slot, which is looked at after a use of the source was spent: by the key and its domain.
+abbrev pub second_under : {V : Type 0} → V → List Slot → ℕ → Source → Option Status → (List ℕ → Domain → Slot → SlotResult V) → SlotsResult V
+second_under engine slots second source None service = on_slot slots second (service source.key source.domain)
+second_under engine slots second source (Some reason) service = on_no_slot engine slots (refusal reason)
 
-abbrev pub on_two_slots : {V : Type 0} → V → List Slot → ℕ → ℕ → (Slot → Source) → (List ℕ → Slot → SlotResult V) → SlotsResult V
+abbrev pub on_two_slots : {V : Type 0} → V → List Slot → ℕ → ℕ → (Slot → Source) → (List ℕ → Domain → Slot → SlotResult V) → SlotsResult V
 on_two_slots engine slots first second sourced service =
     let source = sourced (slot_at slots first) in
-    second_under engine (with_slot_at slots first source.slot) second source.key source.refused service
+    second_under engine (with_slot_at slots first source.slot) second source source.refused service

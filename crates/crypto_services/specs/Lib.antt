@@ -3,3 +3,7 @@ pub mod Services
 pub mod Indicator
 pub mod Serves
 pub mod Noise
+pub mod Sealing
+pub mod Wrapping
+pub mod Derivation
+pub mod Drawing

@@ -3,6 +3,7 @@ ghost use Rattle.std.specs.Prelude.{◌≡◌, ◌++◌, ◌∷◌, [], ℕ, Lis
 ghost use Rattle.noise_health.specs.Counts.{Counts};
 ghost use Rattle.outside.specs.Explained.{Explained};
 ghost use Rattle.outside.specs.Faults.{FaultCounted};
+ghost use Rattle.service_table.specs.Failures.{failure_code};
 ghost use Rattle.random_bits.specs.Draws.{IsDrawn, instantiated};
 ghost use Rattle.crypto_services.specs.Noise.{IsSampleOrCode};
 
@@ -20,7 +21,7 @@ pub fn sample<E: Engine, N: Noise>(parts: &mut Parts<E>, noise: &mut N) -> Resul
     ensures counts { IfOk result (λ byte. (samples : List ℕ) → Counts parts.old.health samples → Counts parts.new.health (samples ++ byte ∷ [])) }
     ensures others_stay { parts.new ≡ record parts.old { health = parts.new.health } }
     ensures fault_counted { MatchResult result (λ _. N.faults noise.new ≡ N.faults noise.old)
-        (λ code. code ≡ 0x0400 → FaultCounted (N.faults noise.old) (N.faults noise.new)) }
+        (λ code. code ≡ failure_code Failure.NoiseFailed → FaultCounted (N.faults noise.old) (N.faults noise.new)) }
 {
     match take_sample(&mut parts.health, noise) {
         Ok(byte) => Ok(byte),

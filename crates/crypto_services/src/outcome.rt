@@ -1,19 +1,19 @@
 // What a service answers beside its payload.
-ghost use Rattle.std.specs.Prelude.{◌≡◌, ◌&&◌, false};
+ghost use Rattle.std.specs.Prelude.{◌≡◌, ◌&&◌, false, None};
 ghost use Rattle.std.specs.List.{list_all};
 ghost use Rattle.crypto_services.specs.AtSlots.{fault_status, slot_at};
 ghost use Rattle.crypto_services.specs.Indicator.{ServiceUse, is_ok, is_in_approved, indicator};
 
 use bits_core::{Domain, SlotId};
-use service_table::{Service, Status, approved};
+use service_table::{Failure, Service, Status, approved};
 use ssp_slots::{SlotFault, Vault};
 
 /// What a service answers beside its payload.
 #[derive(Clone, Copy, Debug, PartialEq, Eq)]
 pub struct Outcome {
     pub status: Status,
-    /// What failed, where something did; 0 else.
-    pub code: u16,
+    /// What failed, where something did.
+    pub failure: Option<Failure>,
     /// Whether it was an approved use. That a service tells so is asked for by ISO/IEC 19790:2012, 7.2.4.2; the rule, by the named slots,
     /// is this project's own.
     pub approved: bool,
@@ -60,14 +60,14 @@ pub(crate) fn with_indicator(
     vault: &Vault,
 ) -> Outcome
     ensures { let indicated = indicator (record { service = service; mac_length = mac_length; named = named.now }) status vault.now.slots in
-        result ≡ record { status = status; code = 0; approved = indicated } }
+        result ≡ record { status = status; failure = None; approved = indicated } }
 {
     let approved = status == Status::Ok
         && approved(service, mac_length)
         && are_in_approved(vault, named);
     Outcome {
         status,
-        code: 0,
+        failure: None,
         approved,
     }
 }
