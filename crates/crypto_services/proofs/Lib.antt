@@ -1,2 +1,3 @@
 pub mod Sourcing
+pub mod TwoSlots
 pub mod ZeroWork

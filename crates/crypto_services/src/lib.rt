@@ -2,6 +2,7 @@
 #![tactic(auto)]
 
 mod digests;
+mod key_derivation;
 mod leftmost;
 mod macs;
 mod noise;
@@ -13,6 +14,7 @@ mod tests;
 mod work;
 
 pub use digests::hash;
+pub use key_derivation::derive;
 pub use macs::mac;
 pub use noise::{sample, seed};
 pub use outcome::{Outcome, status_of};
