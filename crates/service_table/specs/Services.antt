@@ -10,7 +10,7 @@ use Rattle.service_table.specs.declared.service.Service.{Service}
 use Rattle.service_table.specs.declared.service.Service.TheVariants as service
 use Rattle.service_table.specs.declared.state.State.{State}
 use Rattle.service_table.specs.declared.state.State.TheVariants as state
-use Rattle.service_table.specs.Numbers.{state_number, all_states}
+use Rattle.service_table.specs.Numbers.{service_number, state_number, all_states}
 
 -- a row of the table: where the service is permitted
 abbrev pub states_of : Service → List State
@@ -45,7 +45,7 @@ states_of service.Generate = state.Officer ∷ []
 states_of service.Reseed = state.Officer ∷ []
 
 abbrev pub is_permitted : Service → State → Bool
-is_permitted asked found = list_any (λ s. state_number s == state_number found) (states_of asked)
+is_permitted requested found = list_any (λ s. state_number s == state_number found) (states_of requested)
 
 -- what the reply of each service may have: a payload, or nothing
 abbrev pub class_of : Service → Class
@@ -119,7 +119,7 @@ has_cryptography approval.Never = true
 
 -- the cryptographic services
 abbrev pub is_cryptographic : Service → Bool
-is_cryptographic asked = has_cryptography (approval_of asked)
+is_cryptographic requested = has_cryptography (approval_of requested)
 
 -- the least length of a MAC, in bytes, that is an approved use: a rule of this project's own
 abbrev pub mac_least : ℕ
@@ -130,6 +130,16 @@ approves approval.NotCryptographic mac = false
 approves approval.Always mac = true
 approves approval.ByMacLength mac = nat_le mac_least mac
 approves approval.Never mac = false
+
+-- the service is one of these
+abbrev pub is_among : List Service → Service → Bool
+is_among these requested = list_any (λ s. service_number s == service_number requested) these
+
+-- the services that use a slot's key
+abbrev pub source_services : List Service
+source_services =
+    service.Mac ∷ service.MacVerify ∷ service.Seal ∷ service.SealIv ∷ service.Open ∷ service.Wrap ∷ service.Unwrap ∷ service.WrapPad
+    ∷ service.UnwrapPad ∷ service.Derive ∷ []
 
 -- the service that wraps a key, with padding (SP 800-38F, 6.3) or without (6.2)
 abbrev pub wrapping_service : Bool → Service
@@ -143,4 +153,4 @@ unwrapping_service false = service.Unwrap
 
 -- whether a service, with a MAC of this length where it has one, is an approved use
 abbrev pub is_approved : Service → ℕ → Bool
-is_approved asked mac = approves (approval_of asked) mac
+is_approved requested mac = approves (approval_of requested) mac
