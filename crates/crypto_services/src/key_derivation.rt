@@ -84,10 +84,8 @@ fn derive_into<E: Engine>(
     requires domain { header.now.domain ≡ domain_at (slot_at parts.old.vault.slots source).header }
     requires uses { 1 ≤ header.now.uses }
     requires fits { IsTrue (length_fits header.now.kind header.now.domain size) }
-    ensures leaves { Leaves (derive_result E.calls parts.old.engine source target header.now.kind header.now.export header.now.uses size label.now context.now parts.old.vault.slots) parts.old parts.new }
-    ensures answer { MatchResult result
-        (λ _. (derive_result E.calls parts.old.engine source target header.now.kind header.now.export header.now.uses size label.now context.now parts.old.vault.slots).answer ≡ success [])
-        (λ fault. (derive_result E.calls parts.old.engine source target header.now.kind header.now.export header.now.uses size label.now context.now parts.old.vault.slots).answer ≡ refusal (fault_status fault)) }
+    ensures derived { let after = derive_result E.calls parts.old.engine source target header.now.kind header.now.export header.now.uses size label.now context.now parts.old.vault.slots in
+        Leaves after parts.old parts.new × MatchResult result (λ _. after.answer ≡ success []) (λ fault. after.answer ≡ refusal (fault_status fault)) }
     ensures well_formed { AreWellFormed parts.new.vault }
 {
     let is_approved = approved(Service::Derive, 0);
