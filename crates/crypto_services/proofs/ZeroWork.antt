@@ -1,5 +1,5 @@
 -- Bytes to work in stay zero where a front of them was wiped.
-use Rattle.std.proofs.Common.{◌≡◌, ◌≤◌, ◌+◌, ◌-◌, ◌++◌, ℕ, List, length, drop, take, ap, ◌∙◌, arith}
+use Rattle.std.proofs.Common.{◌≡◌, ◌≤◌, ◌+◌, ◌-◌, ◌∷◌, ◌++◌, ℕ, zero, suc, List, length, drop, take, refl, ap, ◌∙◌, arith}
 use Rattle.std.proofs.lemmas.List.{drop-replicate}
 use Rattle.bits_core.specs.ByteList.{zeros}
 use Rattle.bits_core.proofs.ZeroPadding.{zeros-append-zeros, take_front, length-zeros}
@@ -11,3 +11,9 @@ front_wiped n m within =
 -- what a lent vector gives back
 pub whole_lent : (n : ℕ) (xs : List ℕ) → take n (zeros n ++ drop (length (zeros n)) xs) ≡ zeros n
 whole_lent n xs = take_front n (zeros n) (drop (length (zeros n)) xs) (length-zeros n)
+
+-- a front of zeros is zeros
+pub front_of_zeros : (n m : ℕ) → take n (zeros m) ≡ zeros (length (take n (zeros m)))
+front_of_zeros zero m = refl
+front_of_zeros (suc n) zero = refl
+front_of_zeros (suc n) (suc m) = ap (λ (xs : List ℕ). 0 ∷ xs) (front_of_zeros n m)

@@ -2,6 +2,7 @@
 #![tactic(auto)]
 
 mod digests;
+mod key_derivation;
 mod leftmost;
 mod macs;
 mod noise;
@@ -16,6 +17,7 @@ mod work;
 mod wrapping;
 
 pub use digests::hash;
+pub use key_derivation::derive;
 pub use macs::mac;
 pub use noise::{sample, seed};
 pub use outcome::{Outcome, status_of};
