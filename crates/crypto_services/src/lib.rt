@@ -2,6 +2,7 @@
 #![tactic(auto)]
 
 mod digests;
+mod draws;
 mod leftmost;
 mod macs;
 mod noise;
