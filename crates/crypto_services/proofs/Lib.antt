@@ -1,2 +1,4 @@
+pub mod DrawServed
+pub mod FaultRefused
 pub mod Sourcing
 pub mod ZeroWork

@@ -3,20 +3,24 @@
 
 mod digests;
 mod draws;
+mod generating;
 mod leftmost;
 mod macs;
 mod noise;
 mod outcome;
 mod parts;
+mod random_bytes;
 mod tags;
 #[cfg(test)]
 mod tests;
 mod work;
 
 pub use digests::hash;
+pub use generating::generate;
 pub use macs::mac;
 pub use noise::{sample, seed};
 pub use outcome::{Outcome, status_of};
 pub use parts::Parts;
+pub use random_bytes::{random, reseed};
 pub use tags::mac_verify;
 pub use work::Work;
