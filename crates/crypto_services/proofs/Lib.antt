@@ -1,3 +1,5 @@
+pub mod DrawServed
+pub mod FaultRefused
 pub mod Sourcing
 pub mod TwoSlots
 pub mod Wrappings
