@@ -19,6 +19,10 @@ mac_test Sha256 = 4
 mac_test Sha384 = 5
 mac_test Sha512 = 6
 
+-- the test of the generator of random bits (SP 800-90A)
+abbrev pub generator_test : ℕ
+generator_test = 14
+
 -- the test that a service needs, with the hash function that the command names where it names one
 abbrev pub test_of : Service → Option Alg → Option ℕ
 test_of service.PowerOn alg = None
@@ -47,6 +51,6 @@ test_of service.Unwrap alg = Some 10
 test_of service.WrapPad alg = Some 11
 test_of service.UnwrapPad alg = Some 12
 test_of service.Derive alg = Some 13
-test_of service.Random alg = Some 14
-test_of service.Generate alg = Some 14
-test_of service.Reseed alg = Some 14
+test_of service.Random alg = Some generator_test
+test_of service.Generate alg = Some generator_test
+test_of service.Reseed alg = Some generator_test

@@ -45,7 +45,7 @@ states_of service.Generate = state.Officer ∷ []
 states_of service.Reseed = state.Officer ∷ []
 
 abbrev pub is_permitted : Service → State → Bool
-is_permitted asked found = list_any (λ s. state_number s == state_number found) (states_of asked)
+is_permitted requested found = list_any (λ s. state_number s == state_number found) (states_of requested)
 
 -- what the reply of each service may have: a payload, or nothing
 abbrev pub class_of : Service → Class
@@ -119,7 +119,7 @@ has_cryptography approval.Never = true
 
 -- the cryptographic services
 abbrev pub is_cryptographic : Service → Bool
-is_cryptographic asked = has_cryptography (approval_of asked)
+is_cryptographic requested = has_cryptography (approval_of requested)
 
 -- the least length of a MAC, in bytes, that is an approved use: a rule of this project's own
 abbrev pub mac_least : ℕ
@@ -143,4 +143,4 @@ unwrapping_service false = service.Unwrap
 
 -- whether a service, with a MAC of this length where it has one, is an approved use
 abbrev pub is_approved : Service → ℕ → Bool
-is_approved asked mac = approves (approval_of asked) mac
+is_approved requested mac = approves (approval_of requested) mac
