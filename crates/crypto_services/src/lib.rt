@@ -2,11 +2,13 @@
 #![tactic(auto)]
 
 mod digests;
+mod in_place;
 mod leftmost;
 mod macs;
 mod noise;
 mod outcome;
 mod parts;
+mod sealing;
 mod tags;
 #[cfg(test)]
 mod tests;
@@ -17,5 +19,6 @@ pub use macs::mac;
 pub use noise::{sample, seed};
 pub use outcome::{Outcome, status_of};
 pub use parts::Parts;
+pub use sealing::{open, seal, seal_iv};
 pub use tags::mac_verify;
 pub use work::Work;
