@@ -1,2 +1,4 @@
 pub mod Sourcing
+pub mod TwoSlots
+pub mod Wrappings
 pub mod ZeroWork

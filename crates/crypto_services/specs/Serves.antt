@@ -1,5 +1,6 @@
 -- The bridge between the parts of a module and the services.
 use Rattle.std.specs.Prelude.{◌≡◌, ℕ, List, None}
+use Rattle.service_table.specs.declared.status.Status.{Status}
 use Rattle.crypto_services.specs.declared.parts.Parts.{Parts}
 use Rattle.crypto_services.specs.declared.outcome.Outcome.{Outcome}
 use Rattle.crypto_services.specs.AtSlots.{SlotsResult}
@@ -20,4 +21,10 @@ outcome_of use' result = record { status = result.answer.status; failure = None;
 pub record Serves {V : Type 0} (use' : ServiceUse) (result : SlotsResult V) (old new : Parts V) (outcome : Outcome) (payload : List ℕ) : Type 0 where
   pub leaves : Leaves result old new
   pub same_outcome : outcome ≡ outcome_of use' result
+  pub same_payload : payload ≡ result.answer.payload
+
+-- The same of a part of a service, which tells its status and no indicator.
+pub record ServesInPart {V : Type 0} (result : SlotsResult V) (old new : Parts V) (outcome : Status) (payload : List ℕ) : Type 0 where
+  pub leaves : Leaves result old new
+  pub same_status : outcome ≡ result.answer.status
   pub same_payload : payload ≡ result.answer.payload

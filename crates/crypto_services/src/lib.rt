@@ -1,4 +1,4 @@
-//! The cryptographic services: digests and MACs by an engine, under keys of the vault; and noise for the module.
+//! The cryptographic services: digests, MACs and wrapping by an engine, under keys of the vault; and noise for the module.
 #![tactic(auto)]
 
 mod digests;
@@ -12,7 +12,10 @@ mod sealing;
 mod tags;
 #[cfg(test)]
 mod tests;
+#[cfg(test)]
+mod tests_wrapping;
 mod work;
+mod wrapping;
 
 pub use digests::hash;
 pub use macs::mac;
@@ -22,3 +25,4 @@ pub use parts::Parts;
 pub use sealing::{open, seal, seal_iv};
 pub use tags::mac_verify;
 pub use work::Work;
+pub use wrapping::{unwrap, wrap};

@@ -29,8 +29,9 @@ const FOURTEEN: [u8; 32] = [
     0xf2, 0x88, 0xf7, 0x69, 0x43, 0xa8, 0x30, 0x3d, 0xe5, 0x84, 0x7d, 0x99, 0x3d, 0xae, 0xde, 0xd6,
 ];
 
-fn slot_at(number: u8) -> SlotId
+pub(crate) fn slot_at(number: u8) -> SlotId
     requires { number < 16 }
+    ensures { result ≡ number }
 {
     SlotId::new(number).unwrap()
 }
@@ -48,7 +49,7 @@ fn mac_header(domain: Domain, uses: u32) -> Header
     }
 }
 
-fn outcome(status: Status, approved: bool) -> Outcome {
+pub(crate) fn outcome(status: Status, approved: bool) -> Outcome {
     Outcome {
         status,
         failure: None,
@@ -129,7 +130,7 @@ fn verify_cut<E: Engine>(
     verify(parts, slot, &tag[..place + 1], outbox)
 }
 
-fn expect_uses<E: Engine>(rt: &impl Abort, parts: &Parts<E>, slot: SlotId, want: u32) {
+pub(crate) fn expect_uses<E: Engine>(rt: &impl Abort, parts: &Parts<E>, slot: SlotId, want: u32) {
     assert_eq!(rt;
         parts.vault.show(slot).header.map(|header| header.uses),
         Some(want)

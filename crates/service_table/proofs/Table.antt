@@ -16,20 +16,18 @@ use Rattle.service_table.specs.declared.state.State.{State}
 use Rattle.service_table.specs.declared.state.State.TheVariants as state
 use Rattle.service_table.specs.declared.status.Status.TheVariants as status
 use Rattle.service_table.specs.Numbers.{service_number, state_number, all_services, all_states}
-use Rattle.service_table.specs.Services.{class_of, is_permitted, approval_of, has_cryptography, is_cryptographic, approves}
-use Rattle.service_table.specs.Laws.{ServicesKeepTheirNumbers, StatesKeepTheirNumbers, StatusesKeepTheirNumbers, is_among, PermitsOnly, AreOnlyIn}
+use Rattle.service_table.specs.Services.{is_among, source_services, class_of, is_permitted, approval_of, has_cryptography, is_cryptographic, approves}
+use Rattle.service_table.specs.Laws.{ServicesKeepTheirNumbers, StatesKeepTheirNumbers, StatusesKeepTheirNumbers, PermitsOnly, AreOnlyIn}
 use Rattle.service_table.specs.Laws.{answering_services, never_approved_services, PayloadIsOfTheAnswering, PayloadNeedsARole, CryptographicByNumber, CryptographicNeedsARole, CryptographicIsApproved, OtherIsNotApproved}
-use Rattle.service_table.specs.Laws.{mac_services, ShortMacIsNotApproved, NoMacNoLength, EachIsPermitted, officer_services, ParametersAreTheOfficers, transport_services, WrappingIsTheOfficers, WrappingIsOneWay, generator_services, GeneratorIsTheOfficers, entry_services, EntryGoesOnInEntry, key_services, KeysAreTheUsers, StatusIsShown}
+use Rattle.service_table.specs.Laws.{ShortMacIsNotApproved, NoMacNoLength, EachIsPermitted, officer_services, ParametersAreTheOfficers, transport_services, WrappingIsTheOfficers, WrappingIsOneWay, generator_services, GeneratorIsTheOfficers, entry_services, EntryGoesOnInEntry, key_services, KeysAreTheUsers, StatusIsShown}
 use Rattle.service_table.specs.Laws.{hashing_services, CryptographicIsTested, DigestsAreTested, MacsAreTested, IsTestOf, OthersAreTested}
 use Rattle.service_table.specs.Laws.{off_services, OffPermits, init_services, InitPermits, self_test_services, SelfTestPermits, approved_services, ApprovedPermits, officer_role_services, OfficerPermits, user_role_services, UserPermits, entry_state_services, EntryPermits, error_services, ErrorPermits}
-use Rattle.service_table.specs.Laws.{IsAnswerOf, EachAnswersThese, is_tested_at_use, TestsFailWhereDone, NoiseFailsWhereDrawn, source_services, KeysAreRefused, drawing_services, domain_services, filling_services, exporting_services, measuring_services, DomainsAreKept, FullSlotsAreRefused, ExportIsRefused, LengthsAreRefused, ForgeriesAreRefused}
+use Rattle.service_table.specs.Laws.{IsAnswerOf, EachAnswersThese, is_tested_at_use, TestsFailWhereDone, NoiseFailsWhereDrawn, KeysAreRefused, drawing_services, domain_services, filling_services, exporting_services, measuring_services, DomainsAreKept, FullSlotsAreRefused, ExportIsRefused, LengthsAreRefused, ForgeriesAreRefused}
 use Rattle.service_table.specs.Laws.{slot_refusals, slotless_services, SlotlessSayNothingOfSlots, FailuresHaveTheirCodes, FailuresAreTold}
-use Rattle.service_table.specs.declared.failure.Failure.{Failure}
 use Rattle.service_table.specs.declared.failure.Failure.TheVariants as failure
 use Rattle.service_table.specs.declared.status.Status.{Status}
 use Rattle.service_table.specs.Numbers.{status_number, all_statuses}
 use Rattle.service_table.specs.Answers.{is_status_among, may_answer}
-use Rattle.service_table.specs.Failures.{failure_code}
 use Rattle.service_table.specs.KnownAnswers.{test_of}
 
 pub services_keep : ServicesKeepTheirNumbers

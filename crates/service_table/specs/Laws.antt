@@ -1,6 +1,5 @@
 -- What the table is for: what holds of all its rows.
 use Rattle.std.specs.Prelude.{◌≡◌, ◌+◌, ◌↔◌, ◌⊎◌, ◌==◌, ◌≤◌, ◌||◌, ◌&&◌, not, ℕ, Bool, true, false, Some, None, nat_le, Option, List, [], ◌∷◌}
-use Rattle.std.specs.List.{list_any}
 use Rattle.bits_core.specs.declared.algorithm.Alg.{Alg}
 use Rattle.bits_core.specs.Algorithms.{alg_number}
 use Rattle.service_table.specs.declared.class.Class.TheVariants as class
@@ -10,16 +9,12 @@ use Rattle.service_table.specs.declared.state.State.{State}
 use Rattle.service_table.specs.declared.state.State.TheVariants as state
 use Rattle.service_table.specs.declared.status.Status.{Status}
 use Rattle.service_table.specs.Numbers.{service_number, service_numbered, state_number, state_numbered, status_number, status_numbered}
-use Rattle.service_table.specs.Services.{class_of, is_permitted, is_cryptographic, is_approved, wrapping_service, unwrapping_service}
+use Rattle.service_table.specs.Services.{is_among, source_services, class_of, is_permitted, is_cryptographic, is_approved, wrapping_service, unwrapping_service}
 use Rattle.service_table.specs.KnownAnswers.{test_of, generator_test}
 use Rattle.service_table.specs.Answers.{is_status_among, may_answer}
 use Rattle.service_table.specs.declared.failure.Failure.{Failure}
 use Rattle.service_table.specs.Failures.{failed_test, failure_code}
 use Rattle.service_table.specs.declared.status.Status.TheVariants as status
-
--- the service is one of these
-abbrev pub is_among : List Service → Service → Bool
-is_among these requested = list_any (λ s. service_number s == service_number requested) these
 
 -- the state permits these services and no other
 abbrev pub PermitsOnly : State → List Service → Type 0
@@ -262,12 +257,6 @@ drawing_services = service.TestStep ∷ service.Seal ∷ service.Random ∷ serv
 -- failed noise is told by these
 abbrev pub NoiseFailsWhereDrawn : Type 0
 NoiseFailsWhereDrawn = IsAnswerOf status.NoiseFault drawing_services
-
--- the services that use a slot's key
-abbrev pub source_services : List Service
-source_services =
-    service.Mac ∷ service.MacVerify ∷ service.Seal ∷ service.SealIv ∷ service.Open ∷ service.Wrap ∷ service.Unwrap ∷ service.WrapPad
-    ∷ service.UnwrapPad ∷ service.Derive ∷ []
 
 -- no key, one of another kind and one without a use left are told by the services that use a key
 abbrev pub KeysAreRefused : Type 0

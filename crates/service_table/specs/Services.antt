@@ -10,7 +10,7 @@ use Rattle.service_table.specs.declared.service.Service.{Service}
 use Rattle.service_table.specs.declared.service.Service.TheVariants as service
 use Rattle.service_table.specs.declared.state.State.{State}
 use Rattle.service_table.specs.declared.state.State.TheVariants as state
-use Rattle.service_table.specs.Numbers.{state_number, all_states}
+use Rattle.service_table.specs.Numbers.{service_number, state_number, all_states}
 
 -- a row of the table: where the service is permitted
 abbrev pub states_of : Service → List State
@@ -130,6 +130,16 @@ approves approval.NotCryptographic mac = false
 approves approval.Always mac = true
 approves approval.ByMacLength mac = nat_le mac_least mac
 approves approval.Never mac = false
+
+-- the service is one of these
+abbrev pub is_among : List Service → Service → Bool
+is_among these requested = list_any (λ s. service_number s == service_number requested) these
+
+-- the services that use a slot's key
+abbrev pub source_services : List Service
+source_services =
+    service.Mac ∷ service.MacVerify ∷ service.Seal ∷ service.SealIv ∷ service.Open ∷ service.Wrap ∷ service.Unwrap ∷ service.WrapPad
+    ∷ service.UnwrapPad ∷ service.Derive ∷ []
 
 -- the service that wraps a key, with padding (SP 800-38F, 6.3) or without (6.2)
 abbrev pub wrapping_service : Bool → Service

@@ -1,8 +1,28 @@
 // What each service may answer.
 ghost use Rattle.std.specs.Prelude.{◌≡◌};
 ghost use Rattle.service_table.specs.Answers.{may_answer};
+ghost use Rattle.service_table.specs.Services.{is_among, source_services};
 
 use crate::{Service, Status};
+
+// Whether the service uses the key that a slot holds.
+fn uses_key(service: Service) -> bool
+    ensures { result ≡ is_among source_services service }
+{
+    matches!(
+        &service,
+        Service::Mac
+            | Service::MacVerify
+            | Service::Seal
+            | Service::SealIv
+            | Service::Open
+            | Service::Wrap
+            | Service::Unwrap
+            | Service::WrapPad
+            | Service::UnwrapPad
+            | Service::Derive
+    )
+}
 
 /// Whether the reply to a command for the service may have this status. Each service may answer `Ok`, `NotInState` and `BadBody`, and
 /// none `UnknownService` or `OutOfOrder`, which are said of a command that reaches no service. The table is this project's own.
@@ -12,21 +32,8 @@ pub fn may_answer(service: Service, status: Status) -> bool
     match status {
         Status::Ok | Status::NotInState | Status::BadBody => true,
         Status::UnknownService | Status::OutOfOrder => false,
-        Status::TestFailed => matches!(
-            &service,
-            Service::TestStep
-                | Service::Hash
-                | Service::Mac
-                | Service::MacVerify
-                | Service::Seal
-                | Service::SealIv
-                | Service::Open
-                | Service::Wrap
-                | Service::Unwrap
-                | Service::WrapPad
-                | Service::UnwrapPad
-                | Service::Derive
-        ),
+        Status::TestFailed => matches!(&service, Service::TestStep | Service::Hash)
+            || uses_key(service),
         Status::NoiseFault => matches!(
             &service,
             Service::TestStep
@@ -35,19 +42,7 @@ pub fn may_answer(service: Service, status: Status) -> bool
                 | Service::Generate
                 | Service::Reseed
         ),
-        Status::EmptySlot | Status::WrongKind | Status::Spent => matches!(
-            &service,
-            Service::Mac
-                | Service::MacVerify
-                | Service::Seal
-                | Service::SealIv
-                | Service::Open
-                | Service::Wrap
-                | Service::Unwrap
-                | Service::WrapPad
-                | Service::UnwrapPad
-                | Service::Derive
-        ),
+        Status::EmptySlot | Status::WrongKind | Status::Spent => uses_key(service),
         Status::WrongDomain => matches!(
             &service,
             Service::Mac | Service::MacVerify | Service::SealIv | Service::Wrap | Service::WrapPad
