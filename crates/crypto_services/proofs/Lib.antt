@@ -1,4 +1,7 @@
+pub mod DrawServed
+pub mod FaultRefused
 pub mod Sourcing
 pub mod TwoSlots
 pub mod Wrappings
 pub mod ZeroWork
+pub mod UnderKey

@@ -2,12 +2,15 @@
 #![tactic(auto)]
 
 mod digests;
+mod draws;
+mod generating;
 mod in_place;
 mod leftmost;
 mod macs;
 mod noise;
 mod outcome;
 mod parts;
+mod random_bytes;
 mod sealing;
 mod tags;
 #[cfg(test)]
@@ -18,10 +21,12 @@ mod work;
 mod wrapping;
 
 pub use digests::hash;
+pub use generating::generate;
 pub use macs::mac;
 pub use noise::{sample, seed};
 pub use outcome::{Outcome, status_of};
 pub use parts::Parts;
+pub use random_bytes::{random, reseed};
 pub use sealing::{open, seal, seal_iv};
 pub use tags::mac_verify;
 pub use work::Work;

@@ -1,5 +1,5 @@
 // What a service answers beside its payload.
-ghost use Rattle.std.specs.Prelude.{◌≡◌, ◌&&◌, false, None};
+ghost use Rattle.std.specs.Prelude.{◌≡◌, ◌&&◌, false, Some, None};
 ghost use Rattle.std.specs.List.{list_all};
 ghost use Rattle.crypto_services.specs.AtSlots.{fault_status, slot_at};
 ghost use Rattle.crypto_services.specs.Indicator.{ServiceUse, is_ok, is_in_approved, indicator};
@@ -69,5 +69,16 @@ pub(crate) fn with_indicator(
         status,
         failure: None,
         approved,
+    }
+}
+
+/// The outcome of a service that drew, where the noise failed.
+pub(crate) fn noise_failed(failure: Failure) -> Outcome
+    ensures { result ≡ record { status = Status.NoiseFault; failure = Some failure; approved = false } }
+{
+    Outcome {
+        status: Status::NoiseFault,
+        failure: Some(failure),
+        approved: false,
     }
 }

@@ -1,25 +1,24 @@
 // Authenticated encryption under the keys of the vault.
 ghost use Rattle.std.specs.Prelude.{◌≡◌, ◌≤◌, ◌+◌, ◌∷◌, ℕ, List, [], length, MatchOption};
 ghost use Rattle.bits_core.specs.declared.limits.TheConstants.{LARGEST_BODY, LARGEST_PAYLOAD};
-ghost use Rattle.gcm_mode.specs.Filled.{IsFilled};
 ghost use Rattle.gcm_mode.specs.Gcm.{IsIv, IsTagLength};
 ghost use Rattle.noise_health.specs.Counts.{Counts};
 ghost use Rattle.outside.specs.Explained.{Explained};
 ghost use Rattle.outside.specs.Faults.{FaultCounted};
 ghost use Rattle.random_bits.specs.Draws.{drawn};
-ghost use Rattle.ssp_slots.specs.Slots.{AreWellFormed, parameter, slot_in, spent_in};
+ghost use Rattle.ssp_slots.specs.Slots.{AreWellFormed};
 ghost use Rattle.service_table.specs.declared.service.Service.TheVariants as service;
 ghost use Rattle.crypto_services.specs.AtSlots.{on_slot};
 ghost use Rattle.crypto_services.specs.Drawing.{ServesDrawn, after_draw};
 ghost use Rattle.crypto_services.specs.Sealing.{seal_iv_at, seal_at, seal_result, open_at};
 ghost use Rattle.crypto_services.specs.Serves.{Serves};
 
-use crate::outcome::{status_of, with_indicator};
+use crate::draws::draw_into;
+use crate::outcome::{noise_failed, status_of, with_indicator};
 use crate::{Outcome, Parts};
 use bits_core::{Enabled, Kind, Port, SlotId};
 use engine_core::Engine;
 use outside::Noise;
-use random_bits::{RESEED_SAMPLES, draw};
 use service_table::{Failure, Service, Status, approved};
 
 /// How many bytes an IV that is drawn has: 96 bits, none of them fixed (SP 800-38D, 8.2.2).
@@ -129,26 +128,19 @@ pub fn seal<E: Engine, N: Noise>(
         (λ failure. failure ≡ Failure.NoiseFailed → FaultCounted (N.faults noise.old) (N.faults noise.new)) }
     ensures same { port.new.outbox.ghost_name ≡ port.old.outbox.ghost_name }
     ensures room { port.new.outbox.now.room ≡ port.old.outbox.now.room }
-    ensures well_formed { AreWellFormed parts.new.vault }
+    ensures well_formed { AreWellFormed parts.old.vault → AreWellFormed parts.new.vault }
 {
     let mut iv = [0; DRAWN_IV];
-    let mut samples = [0; RESEED_SAMPLES];
-    let drawn = draw(
+    match draw_into(
         &mut parts.engine,
         &mut parts.drbg,
         &mut parts.health,
         noise,
         &[],
-        &mut samples,
         &mut iv,
-    );
-    match drawn {
+    ) {
         Ok(_) => sealed(parts, slot, tag_length, &iv, aad, text, port),
-        Err(failure) => Outcome {
-            status: Status::NoiseFault,
-            failure: Some(failure),
-            approved: false,
-        },
+        Err(failure) => noise_failed(failure),
     }
 }
 

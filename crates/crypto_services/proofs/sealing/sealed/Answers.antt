@@ -1,19 +1,25 @@
-use Rattle.std.proofs.Common.{rules, ◌≡◌, ◌≤◌, ◌+◌, ◌∷◌, ℕ, List, [], length, MatchOption, ◌-◌, ◌*◌, ◌<◌, ◌/◌, ◌%◌, Bool, true, false, nat_eq, nat_lt, ◌++◌, slice_index_or, slice_set, bit_and, bit_or, Fits, w8, w32, w64, Bor, MutBor}
-use Rattle.bits_core.specs.declared.limits.TheConstants.{LARGEST_BODY, LARGEST_PAYLOAD}
-use Rattle.gcm_mode.specs.Filled.{IsFilled}
-use Rattle.gcm_mode.specs.Gcm.{IsIv, IsTagLength}
-use Rattle.noise_health.specs.Counts.{Counts}
-use Rattle.outside.specs.Explained.{Explained}
-use Rattle.outside.specs.Faults.{FaultCounted}
-use Rattle.random_bits.specs.Draws.{drawn}
-use Rattle.ssp_slots.specs.Slots.{AreWellFormed, parameter, slot_in, spent_in}
+use Rattle.std.proofs.Common.{◌≡◌, ◌∙◌, ◌++◌, ℕ, List, [], ap, refl}
+use Rattle.bits_core.specs.OutboxContents.{OutboxContents, holding}
+use Rattle.crypto_services.specs.Sealing.{with_tag}
 use Rattle.service_table.specs.declared.service.Service.TheVariants as service
-use Rattle.crypto_services.specs.AtSlots.{on_slot}
-use Rattle.crypto_services.specs.Drawing.{ServesDrawn, after_draw}
-use Rattle.crypto_services.specs.Sealing.{seal_iv_at, seal_at, seal_result, open_at}
-use Rattle.crypto_services.specs.Serves.{Serves}
+use Rattle.bits_core.specs.declared.parameter.Kind.TheVariants as kind
+use Rattle.service_table.specs.Services.{is_approved}
+use Rattle.gcm_mode.specs.Filled.{IsFilled}
+use Rattle.ssp_slots.specs.Slots.{parameter}
+use Rattle.crypto_services.specs.AtSlots.{slot_at, success}
+use Rattle.crypto_services.proofs.UnderKey.{source_is_filled, source_served}
 use Rattle.crypto_services.proofs.sealing.sealed.Goals as goal
 
--- src/sealing.rt:156:1
 pub returns-clause-serves : goal.returns-clause-serves
-returns-clause-serves g c = ?
+returns-clause-serves g c =
+    let calls = g.E.Engine.calls in
+    let engine = c.args.parts.now.engine in
+    let key : List ℕ = parameter (slot_at c.args.parts.now.vault.slots c.args.slot) in
+    let filled : IsFilled c.prepared-prepared.result.now key =
+    source_is_filled c.args.parts.now.vault c.source.new.self c.args.slot (is_approved service.Seal 0) _ c.in_default.ensures.answer c.in_default.ensures.spent c.prepared-prepared.ensures.prepared in
+    source_served _ c.args.parts.now _ c.args.slot kind.Aes (is_approved service.Seal 0)
+    (λ key. calls.seal_after engine key c.args.iv.now c.args.aad.now c.args.text.now)
+    (λ key. success (c.args.iv.now ++ with_tag c.args.tag_length (calls.seal engine key c.args.iv.now c.args.aad.now c.args.text.now)))
+    _ _ c.in_default.ensures.answer c.in_default.ensures.spent (c.seal.ensures.engine key filled) refl refl c.with_indicator-2.ensures
+    (ap (λ (outbox : OutboxContents). outbox.bytes) (c.seal.ensures.put key filled) ∙ ap (λ (outbox : OutboxContents). outbox.bytes ++ with_tag c.args.tag_length (calls.seal engine key c.args.iv.now c.args.aad.now c.args.text.now)) c.put.ensures.put
+    ∙ ap (λ (front : List ℕ). (front ++ c.args.iv.now) ++ with_tag c.args.tag_length (calls.seal engine key c.args.iv.now c.args.aad.now c.args.text.now)) c.requires.empty)
