@@ -1,11 +1,12 @@
 // Authenticated encryption under the keys of the vault.
-ghost use Rattle.std.specs.Prelude.{◌≡◌, ◌≤◌, ◌+◌, ◌∷◌, ℕ, List, [], length, MatchOption};
+ghost use Rattle.std.specs.Prelude.{◌≡◌, ◌≤◌, ◌+◌, ◌∷◌, ℕ, List, [], length, MatchOption, MatchResult, OnOk};
 ghost use Rattle.bits_core.specs.declared.limits.TheConstants.{LARGEST_BODY, LARGEST_PAYLOAD};
+ghost use Rattle.bits_core.specs.ByteList.{zeros};
 ghost use Rattle.gcm_mode.specs.Gcm.{IsIv, IsTagLength};
 ghost use Rattle.noise_health.specs.Counts.{Counts};
 ghost use Rattle.outside.specs.Explained.{Explained};
 ghost use Rattle.outside.specs.Faults.{FaultCounted};
-ghost use Rattle.random_bits.specs.Draws.{drawn};
+ghost use Rattle.random_bits.specs.Draws.{IsDrawn, drawn};
 ghost use Rattle.ssp_slots.specs.Slots.{AreWellFormed};
 ghost use Rattle.service_table.specs.declared.service.Service.TheVariants as service;
 ghost use Rattle.crypto_services.specs.AtSlots.{on_slot};
@@ -131,17 +132,37 @@ pub fn seal<E: Engine, N: Noise>(
     ensures well_formed { AreWellFormed parts.old.vault → AreWellFormed parts.new.vault }
 {
     let mut iv = [0; DRAWN_IV];
-    match draw_into(
+    match draw_iv(parts, noise, &mut iv) {
+        Ok(_) => sealed(parts, slot, tag_length, &iv, aad, text, port),
+        Err(failure) => noise_failed(failure),
+    }
+}
+
+// Draws an IV, whatever the slots hold.
+fn draw_iv<E: Engine, N: Noise>(
+    parts: &mut Parts<E>,
+    noise: &mut N,
+    iv: &mut [u8],
+) -> Result<(), Failure>
+    requires counts { (samples : List ℕ) × Counts parts.old.health samples }
+    requires seeded { 1 ≤ parts.old.drbg.counter }
+    requires most { length iv.old ≤ 65536 }
+    requires zero { iv.old ≡ zeros (length iv.old) }
+    ensures drawn { Explained (N.left noise.old) (N.left noise.new) (λ events left. (samples : List ℕ) → Counts parts.old.health samples →
+        IsDrawn (drawn E.calls parts.old.engine parts.old.drbg [] (length iv.old) samples events) parts.new.engine parts.new.drbg parts.new.health result left
+        × OnOk result (iv.new ≡ (drawn E.calls parts.old.engine parts.old.drbg [] (length iv.old) samples events).bytes)) }
+    ensures vault { parts.new.vault ≡ parts.old.vault }
+    ensures fault_counted { MatchResult result (λ _. N.faults noise.new ≡ N.faults noise.old)
+        (λ failure. failure ≡ Failure.NoiseFailed → FaultCounted (N.faults noise.old) (N.faults noise.new)) }
+{
+    draw_into(
         &mut parts.engine,
         &mut parts.drbg,
         &mut parts.health,
         noise,
         &[],
-        &mut iv,
-    ) {
-        Ok(_) => sealed(parts, slot, tag_length, &iv, aad, text, port),
-        Err(failure) => noise_failed(failure),
-    }
+        iv,
+    )
 }
 
 // Encrypts a text under the key of a slot with an IV that was drawn.
