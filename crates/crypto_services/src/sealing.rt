@@ -95,9 +95,7 @@ pub fn open<E: Engine>(
     }
     let prepared = parts.vault.prepared(slot);
     let engine = &mut parts.engine;
-    let status = parts
-        .work
-        .open(engine, prepared, iv, aad, text, tag, port);
+    let status = parts.work.open(engine, prepared, iv, aad, text, tag, port);
     with_indicator(Service::Open, 0, &[slot], status, &parts.vault)
 }
 
@@ -124,7 +122,7 @@ pub fn seal<E: Engine, N: Noise>(
     ensures serves { Explained (N.left noise.old) (N.left noise.new) (λ events left. (samples : List ℕ) → Counts parts.old.health samples →
         (let drawn = drawn E.calls parts.old.engine parts.old.drbg [] 12 samples events in
         ServesDrawn (record { service = service.Seal; mac_length = 0; named = slot ∷ [] }) drawn
-            (after_draw drawn parts.old.vault.slots (seal_result E.calls slot tag_length aad.now text.now)) parts.old parts.new result port.new.outbox.now.bytes left)) }
+        (after_draw drawn parts.old.vault.slots (seal_result E.calls slot tag_length aad.now text.now)) parts.old parts.new result port.new.outbox.now.bytes left)) }
     ensures fault_counted { MatchOption result.failure (N.faults noise.new ≡ N.faults noise.old)
         (λ failure. failure ≡ Failure.NoiseFailed → FaultCounted (N.faults noise.old) (N.faults noise.new)) }
     ensures same { port.new.outbox.ghost_name ≡ port.old.outbox.ghost_name }

@@ -138,16 +138,7 @@ impl Work {
         ensures same { port.new.outbox.ghost_name ≡ port.old.outbox.ghost_name }
         ensures room { port.new.outbox.now.room ≡ port.old.outbox.now.room }
     {
-        open_in(
-            &mut self.bytes,
-            engine,
-            prepared,
-            iv,
-            aad,
-            text,
-            tag,
-            port,
-        )
+        open_in(&mut self.bytes, engine, prepared, iv, aad, text, tag, port)
     }
 
     // Puts a draw of so many random bits, which stand in these bytes meanwhile. Where the noise fails, none is put.
