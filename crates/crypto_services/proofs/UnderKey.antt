@@ -1,5 +1,5 @@
 -- A service that gives data under the AES key of one slot, by what is prepared of the key.
-use Rattle.std.proofs.Common.{◌≡◌, ◌∙◌, ℕ, Bool, true, List, Option, None, refl, sym, ap, subst}
+use Rattle.std.proofs.Common.{◌≡◌, ◌∙◌, ℕ, Bool, List, None, refl, sym, ap, subst}
 use Rattle.bits_core.specs.declared.parameter.Kind.{Kind}
 use Rattle.bits_core.specs.declared.parameter.Kind.TheVariants as kind
 use Rattle.gcm_mode.specs.declared.prepared_key.Prepared.{Prepared}

@@ -1,4 +1,4 @@
-use Rattle.std.proofs.Common.{◌≡◌, ◌∙◌, ◌++◌, ℕ, Bool, List, Option, None, ap, refl, subst}
+use Rattle.std.proofs.Common.{◌≡◌, ◌∙◌, ◌++◌, ℕ, Bool, List, None, ap, refl, subst}
 use Rattle.bits_core.specs.OutboxContents.{OutboxContents}
 use Rattle.crypto_services.specs.Sealing.{with_tag}
 use Rattle.service_table.specs.declared.service.Service.TheVariants as service
