@@ -4,3 +4,4 @@ pub mod Sourcing
 pub mod TwoSlots
 pub mod Wrappings
 pub mod ZeroWork
+pub mod UnderKey

@@ -8,7 +8,7 @@ use Rattle.service_table.specs.declared.service.Service.TheVariants as service
 use Rattle.service_table.specs.declared.status.Status.TheVariants as status
 use Rattle.service_table.specs.Services.{is_approved}
 use Rattle.ssp_slots.specs.declared.slot.Slot.{Slot}
-use Rattle.crypto_services.specs.AtSlots.{Answer, SlotResult, refusal, success, source, on_source}
+use Rattle.crypto_services.specs.AtSlots.{Answer, SlotResult, SlotsResult, refusal, success, source, on_source, on_slot}
 
 -- the ciphertext, and behind it the leftmost bytes of the tag, as many as were asked for
 abbrev pub with_tag : ℕ → Sealed → List ℕ
@@ -25,6 +25,10 @@ abbrev pub seal_at : {V : Type 0} → Calls V → V → (tag_length : ℕ) → (
 seal_at calls engine tag_length iv aad text slot =
     on_source engine (source kind.Aes (is_approved service.Seal 0) slot)
     (λ key. calls.seal_after engine key iv aad text) (λ key. success (iv ++ with_tag tag_length (calls.seal engine key iv aad text)))
+
+-- the same at the slot with a number, after a draw of the IV
+abbrev pub seal_result : {V : Type 0} → Calls V → (slot tag_length : ℕ) → (aad text : List ℕ) → V → (iv : List ℕ) → List Slot → SlotsResult V
+seal_result calls slot tag_length aad text engine iv slots = on_slot slots slot (seal_at calls engine tag_length iv aad text)
 
 -- the plaintext where the tag is right, and else nothing of it
 abbrev pub opened : Opened → Answer

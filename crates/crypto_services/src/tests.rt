@@ -1,6 +1,8 @@
 //! Values of FIPS 180-4, RFC 4231 and Python's hmac.
 mod draw_rows;
 mod draws;
+mod seal_rows;
+mod sealing;
 
 ghost use Rattle.std.specs.Prelude.{◌≡◌, ◌<◌, ◌≤◌, length};
 ghost use Rattle.bits_core.specs.declared.limits.TheConstants.{LARGEST_PAYLOAD};

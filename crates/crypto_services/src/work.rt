@@ -1,20 +1,26 @@
 // Bytes to work in beside the slots.
-ghost use Rattle.std.specs.Prelude.{◌≡◌, ◌≤◌, ℕ, List, [], IfOk, OnOk, OnErr, MatchResult};
+ghost use Rattle.std.specs.Prelude.{◌≡◌, ◌≤◌, ◌+◌, ◌++◌, ℕ, List, [], length, IfOk, OnOk, OnErr, MatchResult};
 ghost use Rattle.bits_core.specs.declared.limits.TheConstants.{LARGEST_PAYLOAD};
 ghost use Rattle.bits_core.specs.ByteList.{zeros};
+ghost use Rattle.bits_core.specs.OutboxContents.{holding};
+ghost use Rattle.gcm_mode.specs.Filled.{IsFilled};
+ghost use Rattle.gcm_mode.specs.Gcm.{IsIv, IsSealable, IsTagLength};
 ghost use Rattle.noise_health.specs.Counts.{Counts};
 ghost use Rattle.outside.specs.Explained.{Explained};
 ghost use Rattle.outside.specs.Faults.{FaultCounted};
 ghost use Rattle.random_bits.specs.Draws.{IsDrawn, instantiated, drawn};
+ghost use Rattle.crypto_services.specs.Sealing.{with_tag, opened};
 
 use crate::draws::put_draw;
+use crate::in_place::{open_in, seal_in};
 use bits_core::{Enabled, LARGEST_PAYLOAD, Port};
 use drbg_core::Drbg;
 use engine_core::Engine;
+use gcm_mode::Prepared;
 use noise_health::Health;
 use outside::Noise;
 use random_bits::{SEED_SAMPLES, instantiate};
-use service_table::Failure;
+use service_table::{Failure, Status};
 use std::alloc::{AllocError, Global};
 use std::marker::Model;
 
@@ -70,6 +76,69 @@ impl Work {
             (λ why. why ≡ Failure.NoiseFailed → FaultCounted (N.faults noise.old) (N.faults noise.new)) }
     {
         seed_in(&mut self.bytes, engine, drbg, health, noise)
+    }
+
+    // Encrypts a text in these bytes, and puts the ciphertext and the leftmost bytes of its tag.
+    pub(crate) fn seal<E: Engine>(
+        &mut self,
+        engine: &mut E,
+        prepared: &Prepared,
+        tag_length: usize,
+        iv: &[u8],
+        aad: &[u8],
+        text: &[u8],
+        port: &mut Port<'_, Enabled>,
+    )
+        requires filled { (key : List ℕ) × IsFilled prepared.now key }
+        requires tag { IsTagLength tag_length }
+        requires iv { IsIv iv.now }
+        requires aad { IsSealable aad.now }
+        requires text { IsSealable text.now }
+        requires room { length port.old.outbox.now.bytes + (length text.now + tag_length) ≤ port.old.outbox.now.room }
+        ensures engine { (key : List ℕ) → IsFilled prepared.now key → engine.new ≡ E.calls.seal_after engine.old key iv.now aad.now text.now }
+        ensures put { (key : List ℕ) → IsFilled prepared.now key → port.new.outbox.now ≡
+            holding (port.old.outbox.now.bytes ++ with_tag tag_length (E.calls.seal engine.old key iv.now aad.now text.now)) port.old.outbox.now.room }
+        ensures same { port.new.outbox.ghost_name ≡ port.old.outbox.ghost_name }
+    {
+        seal_in(
+            &mut self.bytes,
+            engine,
+            prepared,
+            tag_length,
+            iv,
+            aad,
+            text,
+            port,
+        )
+    }
+
+    // Decrypts a text in these bytes, and puts it where its tag is right.
+    pub(crate) fn open<E: Engine>(
+        &mut self,
+        engine: &mut E,
+        prepared: &Prepared,
+        iv: &[u8],
+        aad: &[u8],
+        text: &[u8],
+        tag: &[u8],
+        port: &mut Port<'_, Enabled>,
+    ) -> Status
+        requires filled { (key : List ℕ) × IsFilled prepared.now key }
+        requires iv { IsIv iv.now }
+        requires aad { IsSealable aad.now }
+        requires text { IsSealable text.now }
+        requires tag { IsTagLength (length tag.now) }
+        requires empty { port.old.outbox.now.bytes ≡ [] }
+        requires room { LARGEST_PAYLOAD ≤ port.old.outbox.now.room }
+        ensures engine { (key : List ℕ) → IsFilled prepared.now key → engine.new ≡ E.calls.open_after engine.old key iv.now aad.now text.now tag.now }
+        ensures status { (key : List ℕ) → IsFilled prepared.now key →
+            result ≡ (opened (E.calls.open engine.old key iv.now aad.now text.now tag.now)).status }
+        ensures put { (key : List ℕ) → IsFilled prepared.now key →
+            port.new.outbox.now.bytes ≡ (opened (E.calls.open engine.old key iv.now aad.now text.now tag.now)).payload }
+        ensures same { port.new.outbox.ghost_name ≡ port.old.outbox.ghost_name }
+        ensures room { port.new.outbox.now.room ≡ port.old.outbox.now.room }
+    {
+        open_in(&mut self.bytes, engine, prepared, iv, aad, text, tag, port)
     }
 
     // Puts a draw of so many random bits, which stand in these bytes meanwhile. Where the noise fails, none is put.

@@ -19,7 +19,7 @@ use std::process::Abort;
 use std::test::Fail;
 
 // Noise of so many bytes 00, 01, .. ff, and so on from 00, and then a failed read.
-fn counting(alloc: Global, count: usize) -> Result<MemNoise, AllocError> {
+pub(super) fn counting(alloc: Global, count: usize) -> Result<MemNoise, AllocError> {
     let mut events = Vec::new(alloc);
     for at in 0..count {
         events.push(Sample::Byte(at.to_le_bytes()[0]))?;
@@ -29,7 +29,7 @@ fn counting(alloc: Global, count: usize) -> Result<MemNoise, AllocError> {
 }
 
 // Parts whose generator was seeded.
-fn seeded(
+pub(super) fn seeded(
     rt: &impl Abort,
     alloc: Global,
     noise: &mut MemNoise,
@@ -42,7 +42,7 @@ fn seeded(
 }
 
 // The counters count anew, and the generator was seeded.
-fn expect_ready(rt: &impl Abort, parts: &mut Parts<Shipped>)
+pub(super) fn expect_ready(rt: &impl Abort, parts: &mut Parts<Shipped>)
     ensures counts { (samples : List ℕ) × Counts parts.new.health samples }
     ensures seeded { 1 ≤ parts.new.drbg.counter }
 {
@@ -123,7 +123,7 @@ const KDF: Header = Header {
     uses: 4_294_967_295,
 };
 
-fn failed(failure: Failure) -> Outcome {
+pub(super) fn failed(failure: Failure) -> Outcome {
     Outcome {
         status: Status::NoiseFault,
         failure: Some(failure),
