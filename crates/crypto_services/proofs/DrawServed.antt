@@ -1,5 +1,5 @@
 -- What a service leaves that draws before it does anything else.
-use Rattle.std.proofs.Common.{◌≡◌, ◌∙◌, ℕ, List, [], Option, Some, None, Ok, Err, false, sym, subst, ap}
+use Rattle.std.proofs.Common.{◌≡◌, ◌∙◌, ℕ, List, [], Option, Some, None, Ok, Err, false, refl, sym, subst, ap}
 use Rattle.std.specs.Bool.{⊤}
 use Rattle.noise_health.specs.Counts.{Counts}
 use Rattle.outside.specs.declared.traits.Sample.{Sample}
@@ -62,3 +62,11 @@ draw_served {V} use' drawn service old middle new bytes outcome payload left is 
       same_payload = serves.same_payload;
       events_left = is.events_left;
     })
+
+-- where the engine isn't used behind the draw, the parts before the service are those after it with the old vault
+pub draw_settled : {V : Type 0} (use' : ServiceUse) (drawn : Drawn V) (service : V → List ℕ → List Slot → SlotsResult V) (old new : Parts V) (bytes : List ℕ) (outcome : Outcome) (payload : List ℕ) (left : List Sample)
+    → IsDrawn drawn new.engine new.drbg new.health (Ok tt) left → bytes ≡ drawn.bytes
+    → Serves use' (service new.engine bytes old.vault.slots) (record new { vault = old.vault }) new outcome payload
+    → ServesDrawn use' drawn (after_draw drawn old.vault.slots service) old new outcome payload left
+draw_settled use' drawn service old new bytes outcome payload left is bytes' serves =
+    draw_served use' drawn service old (record new { vault = old.vault }) new bytes outcome payload left is bytes' refl serves
