@@ -18,5 +18,6 @@ front_of_zeros zero m = refl
 front_of_zeros (suc n) zero = refl
 front_of_zeros (suc n) (suc m) = ap (λ (xs : List ℕ). 0 ∷ xs) (front_of_zeros n m)
 
+-- and as long as it is cut
 pub length_front_of_zeros : (n m : ℕ) → n ≤ m → length (take n (zeros m)) ≡ n
 length_front_of_zeros n m within = length-take-le n (zeros m) (omega (arith, within, length-zeros m))
