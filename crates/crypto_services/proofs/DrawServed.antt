@@ -1,18 +1,16 @@
 -- What a service leaves that draws before it does anything else.
-use Rattle.std.proofs.Common.{◌≡◌, ◌∙◌, ℕ, List, [], Option, Some, None, Ok, Err, false, refl, sym, subst, ap}
-use Rattle.std.specs.Bool.{⊤}
+use Rattle.std.proofs.Common.{◌≡◌, ◌∙◌, ℕ, List, [], Option, Some, Ok, Err, false, refl, sym, subst, ap}
 use Rattle.noise_health.specs.Counts.{Counts}
 use Rattle.outside.specs.declared.traits.Sample.{Sample}
 use Rattle.random_bits.specs.Draws.{Drawn, IsDrawn}
 use Rattle.service_table.specs.declared.failure.Failure.{Failure}
-use Rattle.service_table.specs.declared.status.Status.{Status}
 use Rattle.service_table.specs.declared.status.Status.TheVariants as status
 use Rattle.ssp_slots.specs.declared.slot.Slot.{Slot}
 use Rattle.ssp_slots.specs.Slots.{Contents}
 use Rattle.noise_health.specs.declared.health.Health.{Health}
 use Rattle.crypto_services.specs.declared.outcome.Outcome.{Outcome}
 use Rattle.crypto_services.specs.declared.parts.Parts.{Parts}
-use Rattle.crypto_services.specs.AtSlots.{SlotsResult, refusal, on_no_slot}
+use Rattle.crypto_services.specs.AtSlots.{SlotsResult}
 use Rattle.crypto_services.specs.Drawing.{after_draw_by, after_draw, ServesDrawn}
 use Rattle.crypto_services.specs.Indicator.{ServiceUse, indicator}
 use Rattle.crypto_services.specs.Serves.{Serves}

@@ -9,7 +9,7 @@ use Rattle.ssp_slots.specs.Refusals.{vacancy_fault}
 use Rattle.ssp_slots.specs.Slots.{Contents, filled_in}
 use Rattle.crypto_services.specs.declared.outcome.Outcome.{Outcome}
 use Rattle.crypto_services.specs.declared.parts.Parts.{Parts}
-use Rattle.crypto_services.specs.AtSlots.{SlotsResult, slot_at, on_slot, on_no_slot, refusal, filled_at, fault_status}
+use Rattle.crypto_services.specs.AtSlots.{SlotsResult, slot_at, filled_at, fault_status}
 use Rattle.crypto_services.specs.Drawing.{generate_result}
 use Rattle.crypto_services.specs.Indicator.{ServiceUse, indicator}
 use Rattle.crypto_services.specs.Serves.{Serves}
@@ -26,7 +26,7 @@ generated {V} use' old new target header bytes outcome vacant filled told =
     subst (λ (result : SlotsResult V). Serves use' result (record new { vault = old.vault }) new outcome [])
     (sym (no_fault_served new.engine old.vault.slots target (λ (slot : Slot). vacancy_fault slot.header) (λ (slot : Slot). filled_at new.engine header bytes) vacant))
     (record {
-      leaves = record { engine = refl; vault = filled; generator = refl; health = refl; };
+      leaves = record { engine = refl; vault = filled; generator = refl; health = refl };
       same_outcome = told ∙ ap (indicated use' status.Ok) filled;
       same_payload = refl;
     })
@@ -39,7 +39,7 @@ not_generated {V} use' old new target header bytes reason outcome full stays tol
     subst (λ (result : SlotsResult V). Serves use' result (record new { vault = old.vault }) new outcome [])
     (sym (fault_refused new.engine old.vault.slots target (λ (slot : Slot). vacancy_fault slot.header) (λ (slot : Slot). filled_at new.engine header bytes) reason full))
     (record {
-      leaves = record { engine = refl; vault = stays; generator = refl; health = refl; };
+      leaves = record { engine = refl; vault = stays; generator = refl; health = refl };
       same_outcome = told ∙ ap (indicated use' (fault_status reason)) stays;
       same_payload = refl;
     })

@@ -1,9 +1,9 @@
-use Rattle.std.proofs.Common.{◌≡◌, ◌∷◌, ◌∙◌, List, [], ℕ, None, refl, ap}
+use Rattle.std.proofs.Common.{◌∷◌, ◌∙◌, [], None, refl, ap}
 use Rattle.service_table.specs.declared.service.Service.TheVariants as service
 use Rattle.service_table.specs.declared.status.Status.{Status}
 use Rattle.crypto_services.specs.declared.outcome.Outcome.{Outcome}
 use Rattle.crypto_services.specs.Drawing.{generate_result}
-use Rattle.crypto_services.specs.Indicator.{ServiceUse, indicator}
+use Rattle.crypto_services.specs.Indicator.{indicator}
 use Rattle.outside.proofs.Explanations.{explained_by}
 use Rattle.crypto_services.proofs.DrawServed.{draw_failed, draw_settled}
 use Rattle.crypto_services.proofs.Generated.{generated, not_generated}
@@ -26,7 +26,9 @@ returns-in-Ok-clause-serves g c =
 pub returns-in-Err-answer-clause-serves : goal.returns-in-Err-answer-clause-serves
 returns-in-Err-answer-clause-serves g c =
     let Told : Status → Outcome = λ (s : Status). record {
-      status = s; failure = None; approved = indicator (record { service = service.Generate; mac_length = 0; named = c.args.target ∷ [] }) s c.put-answer.new.self.slots
+      status = s;
+      failure = None;
+      approved = indicator (record { service = service.Generate; mac_length = 0; named = c.args.target ∷ [] }) s c.put-answer.new.self.slots;
     } in
     explained_by _ _ c.in_default.ensures.drawn
     (λ events left drawn samples counts.

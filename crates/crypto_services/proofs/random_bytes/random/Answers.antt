@@ -1,4 +1,4 @@
-use Rattle.std.proofs.Common.{◌≡◌, List, ℕ, refl}
+use Rattle.std.proofs.Common.{refl}
 use Rattle.outside.proofs.Explanations.{explained_by}
 use Rattle.crypto_services.specs.Drawing.{random_result}
 use Rattle.crypto_services.proofs.DrawServed.{draw_failed, draw_settled}
@@ -11,7 +11,7 @@ returns-in-Ok-clause-serves g c =
     let one = drawn samples counts in
     draw_settled _ _ random_result c.args.parts.now _ c.put_draw.new.port.outbox.now.bytes c.with_indicator.result _ left one.0 one.1
     (record {
-      leaves = record { engine = refl; vault = refl; generator = refl; health = refl; };
+      leaves = record { engine = refl; vault = refl; generator = refl; health = refl };
       same_outcome = c.with_indicator.ensures;
       same_payload = refl;
     }))

@@ -1,4 +1,4 @@
-use Rattle.std.proofs.Common.{◌≡◌, List, ℕ, refl}
+use Rattle.std.proofs.Common.{refl}
 use Rattle.outside.proofs.Explanations.{explained_by}
 use Rattle.crypto_services.specs.Drawing.{reseed_result}
 use Rattle.crypto_services.proofs.DrawServed.{draw_failed, draw_settled}
@@ -10,7 +10,7 @@ returns-in-Ok-clause-serves g c =
     (λ events left drawn samples counts.
     draw_settled _ _ reseed_result c.args.parts.now _ _ c.with_indicator.result _ left (drawn samples counts) refl
     (record {
-      leaves = record { engine = refl; vault = refl; generator = refl; health = refl; };
+      leaves = record { engine = refl; vault = refl; generator = refl; health = refl };
       same_outcome = c.with_indicator.ensures;
       same_payload = c.requires.empty;
     }))
