@@ -2,9 +2,9 @@
 #![tactic(auto)]
 
 mod digests;
+mod key_derivation;
 mod draws;
 mod generating;
-mod key_derivation;
 mod leftmost;
 mod macs;
 mod noise;
@@ -20,8 +20,8 @@ mod work;
 mod wrapping;
 
 pub use digests::hash;
-pub use generating::generate;
 pub use key_derivation::derive;
+pub use generating::generate;
 pub use macs::mac;
 pub use noise::{sample, seed};
 pub use outcome::{Outcome, status_of};
