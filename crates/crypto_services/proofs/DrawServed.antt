@@ -1,18 +1,16 @@
 -- What a service leaves that draws before it does anything else.
-use Rattle.std.proofs.Common.{◌≡◌, ◌∙◌, ℕ, List, [], Option, Some, None, Ok, Err, false, sym, subst, ap}
-use Rattle.std.specs.Bool.{⊤}
+use Rattle.std.proofs.Common.{◌≡◌, ◌∙◌, ℕ, List, [], Option, Some, Ok, Err, false, refl, sym, subst, ap}
 use Rattle.noise_health.specs.Counts.{Counts}
 use Rattle.outside.specs.declared.traits.Sample.{Sample}
 use Rattle.random_bits.specs.Draws.{Drawn, IsDrawn}
 use Rattle.service_table.specs.declared.failure.Failure.{Failure}
-use Rattle.service_table.specs.declared.status.Status.{Status}
 use Rattle.service_table.specs.declared.status.Status.TheVariants as status
 use Rattle.ssp_slots.specs.declared.slot.Slot.{Slot}
 use Rattle.ssp_slots.specs.Slots.{Contents}
 use Rattle.noise_health.specs.declared.health.Health.{Health}
 use Rattle.crypto_services.specs.declared.outcome.Outcome.{Outcome}
 use Rattle.crypto_services.specs.declared.parts.Parts.{Parts}
-use Rattle.crypto_services.specs.AtSlots.{SlotsResult, refusal, on_no_slot}
+use Rattle.crypto_services.specs.AtSlots.{SlotsResult}
 use Rattle.crypto_services.specs.Drawing.{after_draw_by, after_draw, ServesDrawn}
 use Rattle.crypto_services.specs.Indicator.{ServiceUse, indicator}
 use Rattle.crypto_services.specs.Serves.{Serves}
@@ -62,3 +60,11 @@ draw_served {V} use' drawn service old middle new bytes outcome payload left is 
       same_payload = serves.same_payload;
       events_left = is.events_left;
     })
+
+-- where the engine isn't used behind the draw, the parts before the service are those after it with the old vault
+pub draw_settled : {V : Type 0} (use' : ServiceUse) (drawn : Drawn V) (service : V → List ℕ → List Slot → SlotsResult V) (old new : Parts V) (bytes : List ℕ) (outcome : Outcome) (payload : List ℕ) (left : List Sample)
+    → IsDrawn drawn new.engine new.drbg new.health (Ok tt) left → bytes ≡ drawn.bytes
+    → Serves use' (service new.engine bytes old.vault.slots) (record new { vault = old.vault }) new outcome payload
+    → ServesDrawn use' drawn (after_draw drawn old.vault.slots service) old new outcome payload left
+draw_settled use' drawn service old new bytes outcome payload left is bytes' serves =
+    draw_served use' drawn service old (record new { vault = old.vault }) new bytes outcome payload left is bytes' refl serves

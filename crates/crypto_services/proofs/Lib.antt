@@ -1,5 +1,6 @@
 pub mod DrawServed
 pub mod FaultRefused
+pub mod Generated
 pub mod Sourcing
 pub mod TwoSlots
 pub mod Wrappings

@@ -36,19 +36,6 @@ pub first_given : {V : Type 0} (engine : V) (slots : List Slot) (first second : 
     ≡ on_slot (with_slot_at slots first (spent_slot slot)) second (service (parameter slot) (domain_at slot.header)))
 first_given {V} engine slots first second kind approved service is = rw is refl
 
--- where the second slot is refused, engine and slots are as they were
-pub second_refused : {V : Type 0} (engine : V) (slots : List Slot) (second : ℕ) (fault : Slot → Option SlotFault) (served : Slot → SlotResult V) (reason : SlotFault)
-    → fault (slot_at slots second) ≡ Some reason
-    → on_slot slots second (λ slot. unless_fault engine slot (fault slot) (served slot)) ≡ on_no_slot engine slots (refusal (fault_status reason))
-second_refused {V} engine slots second fault served reason is =
-    rw is (ap (λ (laid : List Slot). on_no_slot engine laid (refusal (fault_status reason))) (laid_back_at slots second))
-
--- and else it is served
-pub second_given : {V : Type 0} (engine : V) (slots : List Slot) (second : ℕ) (fault : Slot → Option SlotFault) (served : Slot → SlotResult V)
-    → fault (slot_at slots second) ≡ None
-    → on_slot slots second (λ slot. unless_fault engine slot (fault slot) (served slot)) ≡ on_slot slots second served
-second_given {V} engine slots second fault served is = rw is refl
-
 -- the slot of which a use was spent
 pub spent_at : (slots : List Slot) (id : ℕ) → id < length slots → slot_at (with_slot_at slots id (spent_slot (slot_at slots id))) id ≡ spent_slot (slot_at slots id)
 spent_at slots id within = get_or-set_same slots id (spent_slot (slot_at slots id)) empty_slot within

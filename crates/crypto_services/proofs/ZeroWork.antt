@@ -1,6 +1,6 @@
 -- Bytes to work in stay zero where a front of them was wiped.
 use Rattle.std.proofs.Common.{◌≡◌, ◌≤◌, ◌+◌, ◌-◌, ◌∷◌, ◌++◌, ℕ, zero, suc, List, length, drop, take, refl, ap, ◌∙◌, arith}
-use Rattle.std.proofs.lemmas.List.{drop-replicate}
+use Rattle.std.proofs.lemmas.List.{drop-replicate, length-take-le}
 use Rattle.bits_core.specs.ByteList.{zeros}
 use Rattle.bits_core.proofs.ZeroPadding.{zeros-append-zeros, take_front, length-zeros}
 
@@ -17,3 +17,7 @@ pub front_of_zeros : (n m : ℕ) → take n (zeros m) ≡ zeros (length (take n 
 front_of_zeros zero m = refl
 front_of_zeros (suc n) zero = refl
 front_of_zeros (suc n) (suc m) = ap (λ (xs : List ℕ). 0 ∷ xs) (front_of_zeros n m)
+
+-- and as long as it is cut
+pub length_front_of_zeros : (n m : ℕ) → n ≤ m → length (take n (zeros m)) ≡ n
+length_front_of_zeros n m within = length-take-le n (zeros m) (omega (arith, within, length-zeros m))

@@ -1,4 +1,4 @@
-use Rattle.std.proofs.Common.{◌≡◌, ◌++◌, ◌∙◌, List, ℕ, ap}
+use Rattle.std.proofs.Common.{◌++◌, ◌∙◌, List, ℕ, ap}
 use Rattle.bits_core.specs.OutboxContents.{OutboxContents}
 use Rattle.outside.proofs.Explanations.{explained_by}
 use Rattle.crypto_services.proofs.draws.put_draw.Goals as goal
