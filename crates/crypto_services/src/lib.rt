@@ -1,11 +1,11 @@
-//! The cryptographic services: digests, MACs and wrapping by an engine, under keys of the vault; and noise for the module.
+//! The cryptographic services: digests, MACs, authenticated encryption, key wrapping, derivation and random bits by an engine, with the keys of the vault; and noise for the module.
 #![tactic(auto)]
 
 mod digests;
-mod key_derivation;
 mod draws;
 mod generating;
 mod in_place;
+mod key_derivation;
 mod leftmost;
 mod macs;
 mod noise;
@@ -22,8 +22,8 @@ mod work;
 mod wrapping;
 
 pub use digests::hash;
-pub use key_derivation::derive;
 pub use generating::generate;
+pub use key_derivation::derive;
 pub use macs::mac;
 pub use noise::{sample, seed};
 pub use outcome::{Outcome, status_of};
