@@ -3,34 +3,36 @@ use Rattle.std.proofs.Common.{◌≡◌, Bool, true, false, List, [], ℕ, zero,
 use Rattle.noise_health.specs.Signals.{health_signal}
 use Rattle.std.specs.Prelude.{IfSome}
 use Rattle.bits_core.specs.ByteList.{IsBytes}
-use Rattle.bits_core.specs.declared.parameter.Kind.TheVariants as kind
 use Rattle.service_table.specs.declared.service.Service.{Service}
 use Rattle.service_table.specs.declared.service.Service.TheVariants as service
 use Rattle.service_table.specs.declared.state.State.{State}
 use Rattle.service_table.specs.declared.status.Status.TheVariants as status
 use Rattle.service_table.specs.Numbers.{service_numbered}
-use Rattle.service_table.specs.Services.{is_permitted, is_approved}
-use Rattle.ssp_slots.specs.Slots.{Contents, AreWellFormed, slot_in}
+use Rattle.service_table.specs.declared.failure.Failure.TheVariants as failure
+use Rattle.service_table.specs.Services.{is_permitted}
+use Rattle.self_tests.specs.Tests.{number_of}
+use Rattle.ssp_slots.specs.Slots.{Contents}
 use Rattle.ssp_slots.proofs.WellFormedSlots.{AreWellFormed-empty}
 use Rattle.outside.specs.declared.traits.Sample.{Sample}
 use Rattle.module_frames.specs.Requests.{RequestValue, CryptographicRequest, IsInRange, IsCryptographicInRange, request_of, cryptographic_service_for}
 use Rattle.module_frames.specs.Requests as request
 use Rattle.engine_core.specs.Calls.{Calls, Keeps}
-use Rattle.crypto_services.specs.Services.{mac_at, mac_verify_at}
 use Rattle.state_model.specs.Permission.{IsPermittedIn}
 use Rattle.state_model.specs.MachineState.{MachineState, IsWellFormed, initial_state, state_of, vault_of}
-use Rattle.module_frames.specs.PublicEffects.{sequence_taken, use_counted}
+use Rattle.module_frames.specs.PublicEffects.{sequence_taken}
 use Rattle.state_model.specs.Management.{Stepped, refused, with_public}
-use Rattle.state_model.specs.Cryptographic.{service_at, ready_after, served, cryptographic_step}
-use Rattle.state_model.specs.SelfTesting.{Tested, test_for, due_at_first_use}
-use Rattle.state_model.proofs.Testing.{tested_by}
+use Rattle.state_model.specs.Cryptographic.{Ready, service_at, served, link_of, with_link, cryptographic_step}
+use Rattle.state_model.proofs.Testing.{is_failure}
+use Rattle.state_model.proofs.Readiness.{ready_by}
+use Rattle.state_model.proofs.Vaults.{with_link_kept}
+use Rattle.state_model.proofs.ServicesKept.{service_kept}
 use Rattle.state_model.specs.Step.{dispatch, dispatch_request, perform}
 use Rattle.state_model.specs.Laws.{StepsKeepTheRules}
-use Rattle.state_model.proofs.Permitted.{off_for_power_on, testing_for_test_step, officer_for_entry_begin, entering_for_entry_bytes, hash_for_mac}
-use Rattle.state_model.proofs.Rules.{number_taken_kept, power_on_kept, request_tests_kept, select_role_kept, reset_kept, entry_begin_kept, entry_bytes_rules, entry_commit_kept, entry_over_kept, zeroise_kept, zeroise_all_kept, on_slot_kept, on_source_kept, cryptographic_kept, failed_use_is_kept}
+use Rattle.state_model.proofs.Permitted.{off_for_power_on, testing_for_test_step, officer_for_entry_begin, entering_for_entry_bytes, hash_for_mac, hash_for_zeroise}
+use Rattle.state_model.proofs.Rules.{number_taken_kept, power_on_kept, request_tests_kept, select_role_kept, reset_kept, entry_begin_kept, entry_bytes_rules, entry_commit_kept, entry_over_kept, zeroise_kept, zeroise_tree_kept, zeroise_all_kept, cryptographic_kept, failed_use_is_kept, generator_in_use, healthy_in_use}
 use Rattle.state_model.proofs.TestSteps.{test_step_kept}
 use Rattle.state_model.proofs.Sequences.{by_order}
-use Rattle.state_model.proofs.RequestReading.{IsOfBytes, IsRead, request_read}
+use Rattle.state_model.proofs.RequestReading.{IsOfBytes, IsCryptographicOfBytes, IsRead, request_read}
 
 pub begins : {V : Type 0} (engine : V) (image digest : List ℕ) → IsWellFormed (initial_state engine image digest)
 begins engine image digest = record {
@@ -56,30 +58,36 @@ begins engine image digest = record {
     no_signal zero = refl
     no_signal (suc n) = refl
 
--- what a cryptographic service leaves of the slots
-pub service_kept : {V : Type 0} (calls : Calls V) (engine : V) (drawn : List ℕ) (vault : Contents) (what : CryptographicRequest) → IsCryptographicInRange what
-    → AreWellFormed vault → AreWellFormed (record vault { slots = (service_at calls engine drawn vault.slots what).slots })
-service_kept calls engine drawn vault (request.Hash alg text) range are = are
-service_kept calls engine drawn vault (request.Mac slot alg mac_length text) range are =
-    on_slot_kept vault slot (mac_at calls engine alg mac_length text) are (on_source_kept engine (slot_in vault slot) kind.Mac (is_approved service.Mac mac_length) _ _ (are.each slot range.0))
-service_kept calls engine drawn vault (request.MacVerify slot alg tag text) range are =
-    on_slot_kept vault slot (mac_verify_at calls engine alg tag text) are
-    (on_source_kept engine (slot_in vault slot) kind.Mac (is_approved service.MacVerify (length tag)) _ _ (are.each slot range.0))
-
 -- a cryptographic service is permitted in a role
 pub hash_for_cryptographic : (what : CryptographicRequest) (found : State) → is_permitted (cryptographic_service_for what) found ≡ true → is_permitted service.Hash found ≡ true
 hash_for_cryptographic (request.Hash alg text) found allowed = allowed
 hash_for_cryptographic (request.Mac slot alg mac_length text) found allowed = hash_for_mac found allowed
 hash_for_cryptographic (request.MacVerify slot alg tag text) found allowed = hash_for_mac found allowed
+hash_for_cryptographic (request.Seal slot tag_length aad text) found allowed = hash_for_mac found allowed
+hash_for_cryptographic (request.SealIv slot tag_length iv aad text) found allowed = hash_for_mac found allowed
+hash_for_cryptographic (request.Open slot iv aad text tag) found allowed = hash_for_mac found allowed
+hash_for_cryptographic (request.Wrap true kek second) found allowed = hash_for_zeroise found allowed
+hash_for_cryptographic (request.Wrap false kek second) found allowed = hash_for_zeroise found allowed
+hash_for_cryptographic (request.Unwrap true kek target kind export uses wrapped) found allowed = hash_for_zeroise found allowed
+hash_for_cryptographic (request.Unwrap false kek target kind export uses wrapped) found allowed = hash_for_zeroise found allowed
+hash_for_cryptographic (request.Derive source target kind export uses long label context) found allowed = allowed
+hash_for_cryptographic (request.Random long additional) found allowed = allowed
+hash_for_cryptographic (request.Generate target header long) found allowed = hash_for_zeroise found allowed
+hash_for_cryptographic (request.Reseed additional) found allowed = hash_for_zeroise found allowed
 
-pub cryptographic_step_kept : {V : Type 0} (calls : Calls V) (s : MachineState V) (events : List Sample) (what : CryptographicRequest) → IsWellFormed s → is_permitted service.Hash (state_of s) ≡ true
-    → IsCryptographicInRange what → IsWellFormed (cryptographic_step calls s events what).machine
-cryptographic_step_kept {V} calls s events what rules allowed range =
-    let Kept : Tested V → Type 0 = λ t. IsWellFormed (served calls s (ready_after s.shared t events) what).machine in
-    tested_by calls s.shared.engine (use_counted s.shared.public) s.shared.tests_passed Kept (λ more engine includes.
-    let result = service_at calls engine [] s.slots what in
-    cryptographic_kept s more result.engine result.slots rules allowed includes (service_kept calls engine [] (vault_of s) what range rules.slots))
-    (λ t engine. failed_use_is_kept s t engine rules allowed) (due_at_first_use s.shared.tests_passed (test_for what))
+pub cryptographic_step_kept : {V : Type 0} (calls : Calls V) (s : MachineState V) (events : List Sample) (what : CryptographicRequest) → Keeps calls → IsWellFormed s → is_permitted service.Hash (state_of s) ≡ true
+    → IsCryptographicInRange what → IsCryptographicOfBytes what → IsWellFormed (cryptographic_step calls s events what).machine
+cryptographic_step_kept {V} calls s events what keeps rules allowed range bytes =
+    let Kept : Ready V → Type 0 = λ ready. IsWellFormed (served calls s ready what).machine in
+    let passed = generator_in_use s rules allowed in
+    ready_by calls s.shared events what Kept keeps (healthy_in_use s rules allowed) passed.seeded passed.requests
+    (λ more engine generator samples drawn left includes healthy seeded requests fresh.
+    let result = service_at calls engine drawn s.slots what in
+    let rows = with_link s.shared.ancestry (link_of what) in
+    cryptographic_kept s more result.engine generator samples rows result.slots rules allowed includes healthy seeded requests
+    (service_kept calls engine drawn (record { slots = s.slots; rows = rows }) what keeps range bytes fresh (with_link_kept (vault_of s) what range rules.slots)))
+    (λ test engine. failed_use_is_kept s (failure.KnownAnswer (number_of test)) s.shared.tests_passed engine s.shared.generator s.shared.samples (is_failure test) rules allowed)
+    (λ fault more engine generator samples left is. failed_use_is_kept s fault more engine generator samples is rules allowed)
 
 -- what is done for a request keeps the rules
 performed_kept : {V : Type 0} (calls : Calls V) (s : MachineState V) (events : List Sample) (what : RequestValue) → Keeps calls → IsWellFormed s → IsInRange what → IsOfBytes what → IsPermittedIn what (state_of s)
@@ -97,10 +105,11 @@ performed_kept calls s events (request.EntryBytes piece) met rules range bytes a
 performed_kept calls s events (request.EntryCommit check) met rules range bytes allowed = entry_commit_kept calls s check events rules (entering_for_entry_bytes (state_of s) allowed)
 performed_kept calls s events request.EntryAbort met rules range bytes allowed = entry_over_kept s rules (entering_for_entry_bytes (state_of s) allowed)
 performed_kept calls s events (request.Zeroise slot) met rules range bytes allowed = zeroise_kept s slot rules
+performed_kept calls s events (request.ZeroiseTree slot) met rules range bytes allowed = zeroise_tree_kept s slot rules
 performed_kept calls s events request.ZeroiseAll met rules range bytes allowed = zeroise_all_kept s rules
 performed_kept calls s events (request.ShowSlot slot) met rules range bytes allowed = rules
 performed_kept calls s events (request.Cryptographic what) met rules range bytes allowed =
-    cryptographic_step_kept calls s events what rules (hash_for_cryptographic what (state_of s) allowed) range
+    cryptographic_step_kept calls s events what met rules (hash_for_cryptographic what (state_of s) allowed) range bytes
 
 requested_kept : {V : Type 0} (calls : Calls V) (s : MachineState V) (events : List Sample) (found : Service) (body : List ℕ) (read : Option RequestValue) → IfSome read (IsRead found body) → IsBytes body
     → Keeps calls → IsWellFormed s → is_permitted found (state_of s) ≡ true → IsWellFormed (dispatch_request calls s events read).machine

@@ -9,21 +9,18 @@ use Rattle.service_table.specs.Services.{is_permitted}
 use Rattle.outside.specs.declared.traits.Sample.{Sample}
 use Rattle.module_frames.specs.declared.public_state.PublicState.{PublicState}
 use Rattle.module_frames.specs.PublicState.{no_block, sequence_block}
-use Rattle.module_frames.specs.PublicEffects.{sequence_taken, use_counted, is_period_over, sent_to_tests, has_failed}
-use Rattle.service_table.specs.declared.failure.Failure.TheVariants as failure
-use Rattle.self_tests.specs.Tests.{number_of}
+use Rattle.module_frames.specs.PublicEffects.{sequence_taken, is_period_over, sent_to_tests}
 use Rattle.module_frames.specs.Requests.{RequestValue, CryptographicRequest, request_of}
 use Rattle.module_frames.specs.Requests as request
 use Rattle.engine_core.specs.Calls.{Calls}
 use Rattle.state_model.specs.Entries.{with_piece, entry_length}
 use Rattle.state_model.specs.MachineState.{MachineState, Shared, state_of}
 use Rattle.state_model.specs.Management.{Stepped, refused, done, with_public, tests_forgotten, test_step}
-use Rattle.state_model.specs.SelfTesting.{Tested, test_for, due_at_first_use}
-use Rattle.state_model.specs.Cryptographic.{service_at, ready_after, served, cryptographic_step}
+use Rattle.state_model.specs.Cryptographic.{Ready, service_at, served, cryptographic_step}
 use Rattle.state_model.specs.Step.{dispatch, dispatch_request, perform, is_in_order, number_taken}
 use Rattle.state_model.specs.Laws.{OutOfOrderByTheNumber, OutOfOrderChangesNothing, NumbersAreTaken}
 use Rattle.state_model.proofs.Sequences.{by_order}
-use Rattle.state_model.proofs.Testing.{tested_by}
+use Rattle.state_model.proofs.Readiness.{is_ready, is_untested, is_without_noise, ready_cases}
 use Rattle.state_model.proofs.TestSteps.{test_step_by}
 use Rattle.state_model.proofs.Statuses.{dispatched_in_order}
 
@@ -49,12 +46,13 @@ stepped {V} calls s events =
 
 used : {V : Type 0} (calls : Calls V) (s : MachineState V) (events : List Sample) (what : CryptographicRequest) → Expects s (cryptographic_step calls s events what)
 used {V} calls s events what =
-    let Kept : Tested V → Type 0 = λ t. Expects s (served calls s (ready_after s.shared t events) what) in
-    tested_by calls s.shared.engine (use_counted s.shared.public) s.shared.tests_passed Kept (λ more engine includes.
-    let counted : Shared V = record s.shared { public = use_counted s.shared.public; tests_passed = more; engine = (service_at calls engine [] s.slots what).engine } in
-    settled counted (is_period_over counted.public)) (λ t engine.
-    let failed : Shared V = record s.shared { public = has_failed (failure.KnownAnswer (number_of t)) (use_counted s.shared.public); engine = engine } in
-    settled failed (is_period_over failed.public)) (due_at_first_use s.shared.tests_passed (test_for what))
+    let Kept : Ready V → Type 0 = λ ready. Expects s (served calls s ready what) in
+    let after : Ready V → V → Shared V = λ ready engine. record ready.shared { engine = engine } in
+    ready_cases calls s.shared events what Kept
+    (λ more engine generator samples drawn left.
+    let counted = after (is_ready s.shared more engine generator samples drawn left what) (service_at calls engine drawn s.slots what).engine in settled counted (is_period_over counted.public))
+    (λ test engine. let failed = after (is_untested s.shared test engine events) engine in settled failed (is_period_over failed.public))
+    (λ fault more engine generator samples left. let failed = after (is_without_noise s.shared fault more engine generator samples left) engine in settled failed (is_period_over failed.public))
 
 -- no service changes it
 performed : {V : Type 0} (calls : Calls V) (s : MachineState V) (events : List Sample) (what : RequestValue) → Expects s (perform calls s events what)
@@ -75,6 +73,7 @@ performed calls s events (request.EntryBegin slot header long) = refl
 performed calls s events (request.EntryCommit check) = refl
 performed calls s events request.EntryAbort = refl
 performed calls s events (request.Zeroise slot) = refl
+performed calls s events (request.ZeroiseTree slot) = refl
 performed calls s events request.ZeroiseAll = refl
 performed calls s events (request.ShowSlot slot) = refl
 

@@ -1,5 +1,5 @@
 -- What the table says of the state in which a service is permitted.
-use Rattle.std.proofs.Common.{◌≡◌, ◌≢◌, ◌⊎◌, true, refl, inl, inr}
+use Rattle.std.proofs.Common.{◌≡◌, ◌≢◌, ◌⊎◌, true, false, refl, inl, inr}
 use Rattle.service_table.specs.declared.service.Service.TheVariants as service
 use Rattle.module_frames.specs.Requests.{RequestValue, service_for}
 use Rattle.module_frames.specs.Requests as request
@@ -71,6 +71,11 @@ pub hash_for_mac : (found : State) → is_permitted service.Mac found ≡ true �
 hash_for_mac state.User h = refl
 hash_for_mac _ h = cc
 
+-- and so is what is permitted to the officer
+pub hash_for_zeroise : (found : State) → is_permitted service.Zeroise found ≡ true → is_permitted service.Hash found ≡ true
+hash_for_zeroise state.Officer h = refl
+hash_for_zeroise _ h = cc
+
 pub return_is_not_entry : (found : State) → IsReturn found → found ≢ state.Entry
 return_is_not_entry state.Entry h = absurd h
 return_is_not_entry _ h = λ e. cc
@@ -114,6 +119,18 @@ is_test_step request.EntryAbort is = cc
 is_test_step (request.Zeroise slot) is = cc
 is_test_step request.ZeroiseAll is = cc
 is_test_step (request.ShowSlot slot) is = cc
+is_test_step (request.ZeroiseTree slot) is = cc
 is_test_step (request.Cryptographic (request.Hash alg text)) is = cc
 is_test_step (request.Cryptographic (request.Mac slot alg mac_length text)) is = cc
 is_test_step (request.Cryptographic (request.MacVerify slot alg tag text)) is = cc
+is_test_step (request.Cryptographic (request.Seal slot tag_length aad text)) is = cc
+is_test_step (request.Cryptographic (request.SealIv slot tag_length iv aad text)) is = cc
+is_test_step (request.Cryptographic (request.Open slot iv aad text tag)) is = cc
+is_test_step (request.Cryptographic (request.Wrap true kek second)) is = cc
+is_test_step (request.Cryptographic (request.Wrap false kek second)) is = cc
+is_test_step (request.Cryptographic (request.Unwrap true kek target kind export uses wrapped)) is = cc
+is_test_step (request.Cryptographic (request.Unwrap false kek target kind export uses wrapped)) is = cc
+is_test_step (request.Cryptographic (request.Derive source target kind export uses long label context)) is = cc
+is_test_step (request.Cryptographic (request.Random long additional)) is = cc
+is_test_step (request.Cryptographic (request.Generate target header long)) is = cc
+is_test_step (request.Cryptographic (request.Reseed additional)) is = cc

@@ -15,24 +15,25 @@ use Rattle.outside.specs.declared.traits.Sample.{Sample}
 use Rattle.module_frames.specs.declared.public_state.PublicState.{PublicState}
 use Rattle.module_frames.specs.PublicState.{no_block}
 use Rattle.module_frames.specs.PublicEffects.{sequence_taken, use_counted, is_period_over, sent_to_tests, has_failed, role_state}
-use Rattle.service_table.specs.declared.failure.Failure.TheVariants as failure
-use Rattle.self_tests.specs.declared.numbers.Test.{Test}
-use Rattle.self_tests.specs.Tests.{number_of}
-use Rattle.state_model.proofs.Testing.{Includes, is_failure, passed_more, passed_in_use, use_of_passed, none_done}
+use Rattle.drbg_core.specs.declared.generator.Drbg.{Drbg}
+use Rattle.service_table.specs.declared.failure.Failure.{Failure}
+use Rattle.state_model.proofs.Testing.{Includes, passed_more, passed_in_use, use_of_passed, none_done}
+use Rattle.state_model.proofs.Vaults.{AreWellFormed-tree_zeroised}
 use Rattle.ssp_slots.specs.declared.slot.Slot.{Slot}
 use Rattle.ssp_slots.specs.declared.slot_fault.SlotFault.{SlotFault}
 use Rattle.ssp_slots.specs.Refusals.{source_fault, vacancy_fault}
 use Rattle.ssp_slots.specs.Slots.{Contents, AreWellFormed, slot_in, zeroised_in, zeroised_all}
 use Rattle.ssp_slots.specs.Slots.{IsWellFormed as IsWellFormedSlot}
+use Rattle.ssp_slots.specs.Ancestry.{tree_zeroised}
 use Rattle.ssp_slots.proofs.WellFormedSlots.{AreWellFormed-with_slot, AreWellFormed-zeroised, AreWellFormed-empty, IsWellFormed-spent, IsWellFormed-filled}
 use Rattle.engine_core.specs.Calls.{Calls}
 use Rattle.crypto_services.specs.AtSlots.{Answer, SlotResult, slot_at, on_slot, on_source, source, source_by, under_key, unless_fault}
 use Rattle.state_model.specs.declared.entry.Target.{Target}
 use Rattle.state_model.specs.Entries.{with_piece, entry_length, IsEntered}
 use Rattle.state_model.specs.Commit.{commit_at, unless, entered, after_check, check_value}
-use Rattle.state_model.specs.MachineState.{MachineState, Shared, IsReturn, IsPublicState, HavePassed, ArePassed, AreHealthy, state_of, vault_of, with_vault}
+use Rattle.state_model.specs.MachineState.{MachineState, Shared, IsReturn, IsPublicState, HavePassed, ArePassed, AreHealthy, IsFailure, state_of, vault_of, with_vault}
 use Rattle.state_model.specs.MachineState.{IsWellFormed as IsMachine}
-use Rattle.state_model.specs.Management.{refused, done, with_public, power_on, request_tests, select_role, reset, entry_begin, entry_bytes, entry_over, entry_commit, committed, with_slots, zeroise, zeroise_all}
+use Rattle.state_model.specs.Management.{refused, done, with_public, power_on, request_tests, select_role, reset, entry_begin, entry_bytes, entry_over, entry_commit, committed, with_slots, zeroise, zeroise_tree, zeroise_all}
 use Rattle.state_model.specs.Cryptographic.{after_slots}
 use Rattle.state_model.proofs.Permitted.{not_entering_for_request_tests, not_failed_for_request_tests, return_for_select_role, return_is_not_entry, return_is_faultless, return_for_hash}
 use Rattle.state_model.proofs.PublicRules.{sequence_taken_kept, powered_on_kept, tests_requested_kept, failed_use_kept, failed_is_not_over, role_selected_kept, role_is_of_use, was_reset_kept, entry_begun_kept, entry_ended_kept, used_kept}
@@ -148,7 +149,7 @@ unless_kept : {V : Type 0} (engine : V) (slot : Slot) (applies : Bool) (why : St
 unless_kept engine slot true why served well next = well
 unless_kept engine slot false why served well next = next refl
 
-fault_kept : {V : Type 0} (engine : V) (slot : Slot) (fault : Option SlotFault) (served : SlotResult V) → IsWellFormedSlot slot → IsWellFormedSlot served.slot
+pub fault_kept : {V : Type 0} (engine : V) (slot : Slot) (fault : Option SlotFault) (served : SlotResult V) → IsWellFormedSlot slot → IsWellFormedSlot served.slot
     → IsWellFormedSlot (unless_fault engine slot fault served).slot
 fault_kept engine slot None served well next = next
 fault_kept engine slot (Some why) served well next = well
@@ -198,48 +199,63 @@ on_source_kept engine slot kind approved after answer well =
     under_key_kept engine _ _ _ after answer (source_kept slot (source_fault slot.header kind approved) well)
 
 -- what comes before and after the slots
-after_kept : {V : Type 0} (s : MachineState V) (tests : ℕ) (engine : V) (slots : List Slot) (over : Bool) → IsMachine s → IsReturn (state_of s) → HavePassed tests s.shared.generator
-    → AreWellFormed (record (vault_of s) { slots = slots })
+after_kept : {V : Type 0} (s : MachineState V) (more : ℕ) (engine : V) (generator : Drbg) (samples rows : List ℕ) (slots : List Slot) (over : Bool) → IsMachine s → IsReturn (state_of s)
+    → HavePassed more generator → AreHealthy samples → AreWellFormed (record { slots = slots; rows = rows })
     → IsPublicState (if over then sent_to_tests (use_counted s.shared.public) else use_counted s.shared.public)
-    → (let counted : Shared V = record s.shared { public = use_counted s.shared.public; tests_passed = tests; engine = engine } in
+    → (let counted : Shared V = record s.shared { public = use_counted s.shared.public; tests_passed = more; engine = engine; generator = generator; samples = samples; ancestry = rows } in
     let after : Shared V = if over then record counted { public = sent_to_tests counted.public; tests_passed = 0 } else counted in
     let t : MachineState V = record s { shared = after; slots = slots } in IsMachine t)
-after_kept s tests engine slots true rules use' have are kept = record {
+after_kept s more engine generator samples rows slots true rules use' have healthy are kept = record {
   public = kept;
-  passed = none_done 0 s.shared.generator;
-  healthy = λ _. rules.healthy (return_is_faultless (state_of s) use');
+  passed = none_done 0 generator;
+  healthy = λ _. healthy;
   slots = are;
   entering = λ e. cc;
   wiped = λ _. rules.wiped (return_is_not_entry (state_of s) use');
 }
-after_kept s tests engine slots false rules use' have are kept = record {
+after_kept s more engine generator samples rows slots false rules use' have healthy are kept = record {
   public = kept;
-  passed = use_of_passed (state_of s) s.shared.public.tests_done tests s.shared.generator use' have;
-  healthy = rules.healthy;
+  passed = use_of_passed (state_of s) s.shared.public.tests_done more generator use' have;
+  healthy = λ _. healthy;
   slots = are;
   entering = rules.entering;
   wiped = rules.wiped;
 }
 
--- a cryptographic service in a role, whatever it made of engine and slots
-pub cryptographic_kept : {V : Type 0} (s : MachineState V) (tests : ℕ) (engine : V) (slots : List Slot) → IsMachine s → is_permitted service.Hash (state_of s) ≡ true → Includes tests s.shared.tests_passed
-    → AreWellFormed (record (vault_of s) { slots = slots })
-    → (let counted : Shared V = record s.shared { public = use_counted s.shared.public; tests_passed = tests; engine = engine } in
+-- a cryptographic service in a role, whatever it made of engine, generator, noise, rows and slots
+pub cryptographic_kept : {V : Type 0} (s : MachineState V) (more : ℕ) (engine : V) (generator : Drbg) (samples rows : List ℕ) (slots : List Slot) → IsMachine s → is_permitted service.Hash (state_of s) ≡ true
+    → Includes more s.shared.tests_passed → AreHealthy samples → 1 ≤ generator.counter → generator.counter ≤ 1025 → AreWellFormed (record { slots = slots; rows = rows })
+    → (let counted : Shared V = record s.shared { public = use_counted s.shared.public; tests_passed = more; engine = engine; generator = generator; samples = samples; ancestry = rows } in
     let t : MachineState V = record s { shared = after_slots counted; slots = slots } in IsMachine t)
-cryptographic_kept s tests engine slots rules allowed includes are =
+cryptographic_kept s more engine generator samples rows slots rules allowed includes healthy seeded requests are =
     let use' = return_for_hash (state_of s) allowed in
-    let have = passed_more tests s.shared.tests_passed s.shared.generator includes (passed_in_use (state_of s) s.shared.public.tests_done s.shared.tests_passed s.shared.generator use' rules.passed) in
-    after_kept s tests engine slots (is_period_over (use_counted s.shared.public)) rules use' have are (used_kept s.shared.public rules.public use')
+    let have = passed_more more s.shared.tests_passed s.shared.generator includes (passed_in_use (state_of s) s.shared.public.tests_done s.shared.tests_passed s.shared.generator use' rules.passed) in
+    after_kept s more engine generator samples rows slots (is_period_over (use_counted s.shared.public)) rules use'
+    (record { mac_passed = have.mac_passed; generator_passed = have.generator_passed; seeded = seeded; requests = requests }) healthy are (used_kept s.shared.public rules.public use')
 
--- one whose known-answer test failed
-pub failed_use_is_kept : {V : Type 0} (s : MachineState V) (t : Test) (engine : V) → IsMachine s → is_permitted service.Hash (state_of s) ≡ true
-    → (let failed : Shared V = record s.shared { public = has_failed (failure.KnownAnswer (number_of t)) (use_counted s.shared.public); engine = engine } in
+-- the generator of a machine in a role
+pub generator_in_use : {V : Type 0} (s : MachineState V) → IsMachine s → is_permitted service.Hash (state_of s) ≡ true → HavePassed s.shared.tests_passed s.shared.generator
+generator_in_use s rules allowed =
+    passed_in_use (state_of s) s.shared.public.tests_done s.shared.tests_passed s.shared.generator (return_for_hash (state_of s) allowed) rules.passed
+
+-- and its noise is healthy
+pub healthy_in_use : {V : Type 0} (s : MachineState V) → IsMachine s → is_permitted service.Hash (state_of s) ≡ true → AreHealthy s.shared.samples
+healthy_in_use s rules allowed = rules.healthy (return_is_faultless (state_of s) (return_for_hash (state_of s) allowed))
+
+-- one in which something failed before the slots
+pub failed_use_is_kept : {V : Type 0} (s : MachineState V) (fault : Failure) (more : ℕ) (engine : V) (generator : Drbg) (samples : List ℕ) → IsFailure fault → IsMachine s
+    → is_permitted service.Hash (state_of s) ≡ true
+    → (let failed : Shared V = record s.shared { public = has_failed fault (use_counted s.shared.public); tests_passed = more; engine = engine; generator = generator; samples = samples } in
     let u : MachineState V = record s { shared = after_slots failed } in IsMachine u)
-failed_use_is_kept {V} s t engine rules allowed = rw (failed_is_not_over (use_counted s.shared.public) (failure.KnownAnswer (number_of t))) (record {
-  public = failed_use_kept s.shared.public (failure.KnownAnswer (number_of t)) rules.public (is_failure t);
+failed_use_is_kept {V} s fault more engine generator samples is rules allowed = rw (failed_is_not_over (use_counted s.shared.public) fault) (record {
+  public = failed_use_kept s.shared.public fault rules.public is;
   passed = tt;
   healthy = λ other. absurd (other refl);
   slots = rules.slots;
   entering = λ e. cc;
   wiped = λ _. rules.wiped (return_is_not_entry (state_of s) (return_for_hash (state_of s) allowed));
 })
+
+-- the tree of a slot is empty
+pub zeroise_tree_kept : {V : Type 0} (s : MachineState V) (slot : ℕ) → IsMachine s → IsMachine (zeroise_tree s slot)
+zeroise_tree_kept s slot rules = vault_kept s s.shared.engine (tree_zeroised (vault_of s) slot) rules (AreWellFormed-tree_zeroised (vault_of s) slot rules.slots)

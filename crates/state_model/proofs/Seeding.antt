@@ -19,7 +19,7 @@ use Rattle.state_model.specs.SelfTesting.{seeded_when, noise_judgement, IsSeeded
 use Rattle.state_model.specs.MachineState.{AreHealthy, IsFailure}
 
 -- the samples are healthy where nothing failed, and what failed is a failure
-record IsFine (taken : Taken) : Type 0 where
+pub record IsFine (taken : Taken) : Type 0 where
   pub healthy : taken.failure ≡ None → AreHealthy taken.samples
   pub fails : IfSome taken.failure IsFailure
 
@@ -41,7 +41,7 @@ more_fine : (taken : Taken) (failure : Option Failure) → taken.failure ≡ fai
 more_fine taken None is fine = event_fine (record taken { left = events_after taken.left }) (next_event taken.left) is (fine.healthy is)
 more_fine taken (Some why) is fine = fine
 
-all_fine : (taken : Taken) (count : ℕ) → IsFine taken → IsFine (samples_taken taken count)
+pub all_fine : (taken : Taken) (count : ℕ) → IsFine taken → IsFine (samples_taken taken count)
 unfolding samples_taken
 all_fine taken zero fine = fine
 all_fine taken (suc count) fine = more_fine (samples_taken taken count) (samples_taken taken count).failure refl (all_fine taken count fine)

@@ -30,10 +30,8 @@ use Rattle.state_model.specs.Commit.{unless, commit_at, check_value, entered}
 use Rattle.state_model.specs.Entries.{with_piece, entry_length}
 use Rattle.state_model.specs.MachineState.{MachineState, state_of, vault_of, no_slots}
 use Rattle.state_model.specs.Management.{Stepped, refused, done, committed, with_public, test_step}
-use Rattle.state_model.specs.SelfTesting.{Tested, test_for, due_at_first_use}
-use Rattle.state_model.specs.Cryptographic.{service_at, ready_after, served, cryptographic_step}
 use Rattle.state_model.specs.Step.{dispatch, dispatch_request, perform, request_at, number_taken}
-use Rattle.state_model.specs.Laws.{ZeroisingEmptiesAll, ZeroisingEmptiesOne, IsRefusedAtOnce, RefusalsChangeNothing, IsRefusedBySlot, RefusalsChangeNoSlot}
+use Rattle.state_model.specs.Laws.{ZeroisingEmptiesAll, ZeroisingEmptiesOne, IsRefusedAtOnce, RefusalsChangeNothing}
 use Rattle.state_model.proofs.Sequences.{by_order}
 use Rattle.state_model.proofs.Testing.{tested_by}
 use Rattle.state_model.proofs.TestSteps.{test_step_by}
@@ -136,6 +134,7 @@ never_at_once = record {
   bad_length = not_at_once status.BadLength (λ e. cc) (λ e. cc) (λ e. cc);
   check_failed = not_at_once status.CheckFailed (λ e. cc) (λ e. cc) (λ e. cc);
   auth_failed = not_at_once status.AuthFailed (λ e. cc) (λ e. cc) (λ e. cc);
+  unwrap_failed = not_at_once status.UnwrapFailed (λ e. cc) (λ e. cc) (λ e. cc);
   by_slot = slot_not_at_once;
 }
 
@@ -165,120 +164,3 @@ refusals_unchanged {V} calls s events command =
     (λ none which. rw none (dispatched_unchanged calls s events (service_numbered command.service) command.body which))
     (λ number some _ which. rw some (dispatched_unchanged calls (with_public s (sequence_taken s.shared.public)) events (service_numbered command.service) command.body which))
     (λ number some _ which. absurd (not_at_once status.OutOfOrder (λ e. cc) (λ e. cc) (λ e. cc) which))
-
--- what was done, or checked, was refused by no slot
-not_by_slot : (why : Status) → why ≢ status.EmptySlot → why ≢ status.WrongKind → why ≢ status.WrongDomain → why ≢ status.Spent → why ≢ status.OccupiedSlot → IsRefusedBySlot why → ⊥
-not_by_slot why a b c d e which =
-    elim which [ inl x ↦ a x | inr p ↦ (elim p [ inl y ↦ b y | inr q ↦ (elim q [ inl z ↦ c z | inr r ↦ (elim r [ inl u ↦ d u | inr w ↦ e w ]) ]) ]) ]
-
-ok_by_no_slot : IsRefusedBySlot status.Ok → ⊥
-ok_by_no_slot = not_by_slot status.Ok (λ e. cc) (λ e. cc) (λ e. cc) (λ e. cc) (λ e. cc)
-
-auth_by_no_slot : IsRefusedBySlot status.AuthFailed → ⊥
-auth_by_no_slot = not_by_slot status.AuthFailed (λ e. cc) (λ e. cc) (λ e. cc) (λ e. cc) (λ e. cc)
-
--- a slot that refuses stays
-abbrev StaysIfRefused : {V : Type 0} → Slot → SlotResult V → Type 0
-StaysIfRefused slot result = IsRefusedBySlot result.answer.status → result.slot ≡ slot
-
-source_stays : {V : Type 0} (engine : V) (slot : Slot) (fault : Option SlotFault) (after : List ℕ → V) (answer : List ℕ → Answer) → ((key : List ℕ) → IsRefusedBySlot (answer key).status → ⊥)
-    → StaysIfRefused slot (on_source engine (source_by slot fault) after answer)
-source_stays engine slot None after answer never which = absurd (never _ which)
-source_stays engine slot (Some why) after answer never which = refl
-
-verified_never : (right : Bool) → IsRefusedBySlot (if right then success [] else refusal status.AuthFailed).status → ⊥
-verified_never true = ok_by_no_slot
-verified_never false = auth_by_no_slot
-
-unless_stays : {V : Type 0} (engine : V) (slot : Slot) (applies : Bool) (why : Status) (served : SlotResult V) → StaysIfRefused slot served → StaysIfRefused slot (unless engine slot applies why served)
-unless_stays engine slot true why served next which = refl
-unless_stays engine slot false why served next which = next which
-
-fault_stays : {V : Type 0} (engine : V) (slot : Slot) (fault : Option SlotFault) (served : SlotResult V) → StaysIfRefused slot served → StaysIfRefused slot (unless_fault engine slot fault served)
-fault_stays engine slot None served next which = next which
-fault_stays engine slot (Some why) served next which = refl
-
-commit_stays : {V : Type 0} (calls : Calls V) (engine : V) (target : Target) (bytes check : List ℕ) (slot : Slot) → StaysIfRefused slot (commit_at calls engine target bytes check slot)
-commit_stays calls engine target bytes check slot =
-    unless_stays engine slot (not (length bytes == target.length)) status.BadLength _ (fault_stays engine slot (vacancy_fault slot.header) _
-    (unless_stays _ slot (not (bytes_eq check (check_value calls engine target bytes))) status.CheckFailed _ (λ which. absurd (ok_by_no_slot which))))
-
--- and so do all slots
-all_stay : {V : Type 0} (slots : List Slot) (id : ℕ) (service : Slot → SlotResult V) → StaysIfRefused (slot_at slots id) (service (slot_at slots id))
-    → IsRefusedBySlot (on_slot slots id service).answer.status → (on_slot slots id service).slots ≡ slots
-all_stay slots id service stays which = ap (λ (slot : Slot). with_slot_at slots id slot) (stays which) ∙ laid_back_at slots id
-
-service_stays : {V : Type 0} (calls : Calls V) (engine : V) (drawn : List ℕ) (slots : List Slot) (what : CryptographicRequest) → IsRefusedBySlot (service_at calls engine drawn slots what).answer.status
-    → (service_at calls engine drawn slots what).slots ≡ slots
-service_stays calls engine drawn slots (request.Hash alg text) which = refl
-service_stays calls engine drawn slots (request.Mac slot alg mac_length text) which =
-    all_stay slots slot (mac_at calls engine alg mac_length text)
-    (source_stays engine (slot_at slots slot) (source_fault (slot_at slots slot).header kind.Mac (is_approved service.Mac mac_length))
-    (λ key. calls.mac_after engine alg key text) (λ key. success (take mac_length (calls.mac engine alg key text))) (λ key. ok_by_no_slot)) which
-service_stays calls engine drawn slots (request.MacVerify slot alg tag text) which =
-    all_stay slots slot (mac_verify_at calls engine alg tag text)
-    (source_stays engine (slot_at slots slot) (source_fault (slot_at slots slot).header kind.Mac (is_approved service.MacVerify (length tag)))
-    (λ key. calls.mac_after engine alg key text) (λ key. verified tag (calls.mac engine alg key text)) (λ key. verified_never (is_leftmost tag (calls.mac engine alg key text)))) which
-
-committed_stays : {V : Type 0} (calls : Calls V) (s : MachineState V) (target : Option Target) (check : List ℕ) → IsRefusedBySlot (committed calls s target check).answer.status
-    → (committed calls s target check).slots ≡ s.slots
-committed_stays calls s None check which = refl
-committed_stays calls s (Some target) check which =
-    all_stay s.slots target.slot (commit_at calls s.shared.engine target (entered s.entry) check)
-    (commit_stays calls s.shared.engine target (entered s.entry) check (slot_at s.slots target.slot)) which
-
-test_stays : {V : Type 0} (calls : Calls V) (s : MachineState V) (events : List Sample) → (test_step calls s events).machine.slots ≡ s.slots
-test_stays {V} calls s events =
-    let Stays : Stepped V → Type 0 = λ after. after.machine.slots ≡ s.slots in
-    test_step_by calls s events Stays (λ tests engine generator samples left. refl) (λ why tests engine generator samples left. refl) (λ why tests engine generator samples left. refl)
-
-cryptographic_stays : {V : Type 0} (calls : Calls V) (s : MachineState V) (events : List Sample) (what : CryptographicRequest) → IsRefusedBySlot (cryptographic_step calls s events what).status
-    → (cryptographic_step calls s events what).machine.slots ≡ s.slots
-cryptographic_stays {V} calls s events what =
-    let Stays : Tested V → Type 0 = λ t. IsRefusedBySlot (served calls s (ready_after s.shared t events) what).status → (served calls s (ready_after s.shared t events) what).machine.slots ≡ s.slots in
-    tested_by calls s.shared.engine (use_counted s.shared.public) s.shared.tests_passed Stays (λ more engine includes. service_stays calls engine [] s.slots what) (λ t engine which. refl)
-    (due_at_first_use s.shared.tests_passed (test_for what))
-
-performed_stays : {V : Type 0} (calls : Calls V) (s : MachineState V) (events : List Sample) (what : RequestValue) → IsRefusedBySlot (perform calls s events what).status
-    → (perform calls s events what).machine.slots ≡ s.slots
-performed_stays calls s events (request.EntryBytes piece) which = by_room (nat_le (s.entry.filled + length piece) (entry_length s.entry))
-  where
-    by_room : (fits : Bool) → (if fits then done (record s { entry = with_piece s.entry piece }) no_block events else refused s status.BadLength events).machine.slots ≡ s.slots
-    by_room true = refl
-    by_room false = refl
-performed_stays calls s events (request.EntryCommit check) which = committed_stays calls s s.entry.target check which
-performed_stays calls s events (request.Cryptographic what) which = cryptographic_stays calls s events what which
-performed_stays calls s events request.Reset which = absurd (ok_by_no_slot which)
-performed_stays calls s events (request.Zeroise slot) which = absurd (ok_by_no_slot which)
-performed_stays calls s events request.ZeroiseAll which = absurd (ok_by_no_slot which)
-performed_stays calls s events (request.PowerOn period) which = refl
-performed_stays calls s events request.TestStep which = test_stays calls s events
-performed_stays calls s events request.RequestTests which = refl
-performed_stays calls s events request.ShowStatus which = refl
-performed_stays calls s events request.ShowVersion which = refl
-performed_stays calls s events (request.SelectRole role) which = refl
-performed_stays calls s events (request.EntryBegin slot header long) which = refl
-performed_stays calls s events request.EntryAbort which = refl
-performed_stays calls s events (request.ShowSlot slot) which = refl
-
-requested_stays : {V : Type 0} (calls : Calls V) (s : MachineState V) (events : List Sample) (read : Option RequestValue) → IsRefusedBySlot (dispatch_request calls s events read).status
-    → (dispatch_request calls s events read).machine.slots ≡ s.slots
-requested_stays calls s events None which = refl
-requested_stays calls s events (Some what) which = performed_stays calls s events what which
-
-choice_stays : {V : Type 0} (calls : Calls V) (s : MachineState V) (events : List Sample) (allowed : Bool) (read : Option RequestValue)
-    → (let after : Stepped V = if allowed then dispatch_request calls s events read else refused s status.NotInState events in IsRefusedBySlot after.status → after.machine.slots ≡ s.slots)
-choice_stays calls s events true read which = requested_stays calls s events read which
-choice_stays calls s events false read which = refl
-
-dispatched_stays : {V : Type 0} (calls : Calls V) (s : MachineState V) (events : List Sample) (found : Option Service) (body : List ℕ) → IsRefusedBySlot (dispatch calls s events found body).status
-    → (dispatch calls s events found body).machine.slots ≡ s.slots
-dispatched_stays calls s events None body which = refl
-dispatched_stays calls s events (Some found) body which = choice_stays calls s events (is_permitted found (state_of s)) (request_of found body) which
-
-pub refusals_stay : {V : Type 0} (calls : Calls V) → RefusalsChangeNoSlot calls
-refusals_stay {V} calls s events command =
-    let Stays : Stepped V → Type 0 = λ after. IsRefusedBySlot after.status → after.machine.slots ≡ s.slots in
-    by_order calls s events command Stays (λ _. dispatched_stays calls s events (service_numbered command.service) command.body)
-    (λ number _ _. dispatched_stays calls (with_public s (sequence_taken s.shared.public)) events (service_numbered command.service) command.body)
-    (λ number _ _ which. refl)

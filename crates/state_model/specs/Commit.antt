@@ -9,9 +9,8 @@ use Rattle.service_table.specs.declared.status.Status.{Status}
 use Rattle.service_table.specs.declared.status.Status.TheVariants as status
 use Rattle.ssp_slots.specs.declared.slot.Slot.{Slot}
 use Rattle.ssp_slots.specs.Refusals.{vacancy_fault}
-use Rattle.ssp_slots.specs.Slots.{filled_slot}
 use Rattle.engine_core.specs.Calls.{Calls}
-use Rattle.crypto_services.specs.AtSlots.{SlotResult, refused_at, unless_fault, success}
+use Rattle.crypto_services.specs.AtSlots.{SlotResult, refused_at, unless_fault, filled_at}
 use Rattle.state_model.specs.declared.entry.Entry.{Entry}
 use Rattle.state_model.specs.declared.entry.Target.{Target}
 
@@ -46,4 +45,4 @@ commit_at calls engine target bytes check slot =
     unless engine slot (not (length bytes == target.length)) status.BadLength
     (unless_fault engine slot (vacancy_fault slot.header)
     (unless after slot (not (bytes_eq check (check_value calls engine target bytes))) status.CheckFailed
-    (record { engine = after; slot = filled_slot target.header bytes; answer = success [] })))
+    (filled_at after target.header bytes)))

@@ -4,9 +4,9 @@ pub mod MachineState
 pub mod Commit
 pub mod Management
 pub mod Cryptographic
+pub mod Performs
 pub mod Step
 pub mod Laws
-pub mod Meaning
 pub mod ModuleView
 pub mod Represents
 pub mod ModuleInvariant

@@ -9,6 +9,7 @@ use Rattle.module_frames.specs.PublicState.{no_block}
 use Rattle.module_frames.specs.PublicEffects.{powered_on, tests_requested, test_done, role_selected, was_reset, entry_begun, entry_ended}
 use Rattle.ssp_slots.specs.declared.slot.Slot.{Slot}
 use Rattle.ssp_slots.specs.Slots.{zeroised_in, zeroised_all}
+use Rattle.ssp_slots.specs.Ancestry.{tree_zeroised}
 use Rattle.outside.specs.declared.traits.Sample.{Sample}
 use Rattle.engine_core.specs.Calls.{Calls}
 use Rattle.random_bits.specs.Draws.{Drawn}
@@ -119,6 +120,10 @@ entry_commit calls s check events =
 -- Zeroise: the slot and its row are empty, and no other changes
 abbrev pub zeroise : {V : Type 0} → MachineState V → ℕ → MachineState V
 zeroise s slot = with_vault s (zeroised_in (vault_of s) slot)
+
+-- ZeroiseTree: the slot, each slot whose row holds it, and the rows of all these are empty, and no other changes
+abbrev pub zeroise_tree : {V : Type 0} → MachineState V → ℕ → MachineState V
+zeroise_tree s slot = with_vault s (tree_zeroised (vault_of s) slot)
 
 -- ZeroiseAll: all slots and rows are empty
 abbrev pub zeroise_all : {V : Type 0} → MachineState V → MachineState V

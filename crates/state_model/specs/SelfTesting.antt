@@ -87,6 +87,15 @@ abbrev pub alg_named : CryptographicRequest → Option Alg
 alg_named (request.Hash alg text) = Some alg
 alg_named (request.Mac slot alg mac_length text) = Some alg
 alg_named (request.MacVerify slot alg tag text) = Some alg
+alg_named (request.Seal slot tag_length aad text) = None
+alg_named (request.SealIv slot tag_length iv aad text) = None
+alg_named (request.Open slot iv aad text tag) = None
+alg_named (request.Wrap pad kek second) = None
+alg_named (request.Unwrap pad kek target kind export uses wrapped) = None
+alg_named (request.Derive source target kind export uses long label context) = None
+alg_named (request.Random long additional) = None
+alg_named (request.Generate target header long) = None
+alg_named (request.Reseed additional) = None
 
 -- the test of what a request uses
 abbrev pub test_for : CryptographicRequest → Option Test

@@ -18,7 +18,7 @@ use Rattle.crypto_services.specs.AtSlots.{slot_at}
 use Rattle.crypto_services.specs.Indicator.{indicator}
 use Rattle.state_model.specs.SlotBlock.{slot_block}
 use Rattle.state_model.specs.MachineState.{MachineState, state_of}
-use Rattle.state_model.specs.Management.{Stepped, answered, refused, done, with_public, power_on, request_tests, test_step, select_role, reset, entry_begin, entry_bytes, entry_commit, entry_over, zeroise, zeroise_all}
+use Rattle.state_model.specs.Management.{Stepped, answered, refused, done, with_public, power_on, request_tests, test_step, select_role, reset, entry_begin, entry_bytes, entry_commit, entry_over, zeroise, zeroise_tree, zeroise_all}
 use Rattle.state_model.specs.Cryptographic.{cryptographic_step, use_of}
 
 -- what is done for a request; three services tell something in the block
@@ -35,6 +35,7 @@ perform calls s events (request.EntryBytes piece) = entry_bytes s piece events
 perform calls s events (request.EntryCommit check) = entry_commit calls s check events
 perform calls s events request.EntryAbort = done (entry_over s) no_block events
 perform calls s events (request.Zeroise slot) = done (zeroise s slot) no_block events
+perform calls s events (request.ZeroiseTree slot) = done (zeroise_tree s slot) no_block events
 perform calls s events request.ZeroiseAll = done (zeroise_all s) no_block events
 perform calls s events (request.ShowSlot slot) = done s (slot_block (slot_at s.slots slot)) events
 perform calls s events (request.Cryptographic what) = cryptographic_step calls s events what
@@ -91,6 +92,7 @@ indicated (Some (request.EntryBytes piece)) why slots = false
 indicated (Some (request.EntryCommit check)) why slots = false
 indicated (Some request.EntryAbort) why slots = false
 indicated (Some (request.Zeroise slot)) why slots = false
+indicated (Some (request.ZeroiseTree slot)) why slots = false
 indicated (Some request.ZeroiseAll) why slots = false
 indicated (Some (request.ShowSlot slot)) why slots = false
 indicated (Some (request.Cryptographic what)) why slots = indicator (use_of what) why slots

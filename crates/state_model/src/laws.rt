@@ -1,8 +1,7 @@
 // Laws of the machine, each the contract of a function without a body.
 ghost use Rattle.std.specs.Prelude.{ℕ, List};
 ghost use Rattle.state_model.specs.MachineState.{IsWellFormed, initial_state};
-ghost use Rattle.state_model.specs.Laws.{StepsKeepTheRules, DataNeedsARole, ZeroisingEmptiesAll, ZeroisingEmptiesOne, RefusalsChangeNothing, RefusalsChangeNoSlot, OutOfOrderByTheNumber, OutOfOrderChangesNothing, NumbersAreTaken};
-ghost use Rattle.state_model.specs.Meaning.{ServicesMeanTheStandards, ServicesAreComplete};
+ghost use Rattle.state_model.specs.Laws.{StepsKeepTheRules, DataNeedsARole, ZeroisingEmptiesAll, ZeroisingEmptiesOne, RefusalsChangeNothing, OutOfOrderByTheNumber, OutOfOrderChangesNothing, NumbersAreTaken};
 
 use engine_core::Engine;
 
@@ -28,7 +27,6 @@ pub fn zeroising_empties<E: Engine>()
 /// slot refuses changes no slot.
 pub fn refusals_change_nothing<E: Engine>()
     ensures at_once { RefusalsChangeNothing E.calls }
-    ensures by_slot { RefusalsChangeNoSlot E.calls }
 {}
 
 /// A command is out of order exactly where it has a sequence number that isn't the expected one, and changes nothing at all then. In any
@@ -37,16 +35,4 @@ pub fn numbers_are_in_order<E: Engine>()
     ensures late { OutOfOrderByTheNumber E.calls }
     ensures refused { OutOfOrderChangesNothing E.calls }
     ensures taken { NumbersAreTaken E.calls }
-{}
-
-/// With an engine that answers as the standards say, what a cryptographic service gives is the standard's value: a digest of FIPS 180-4, or
-/// the leftmost bytes of an HMAC of FIPS 198-1 under the parameter that the slot held before; and a MAC is told right or wrong as it is.
-pub fn services_mean_the_standards<E: Engine>()
-    ensures { ServicesMeanTheStandards E.calls }
-{}
-
-/// With an engine that answers as the standards say, and answers the test that is due as it is known, a command that comes in its order
-/// and asks for a permitted cryptographic service is done exactly where the named slot may be used for it and a given MAC is right.
-pub fn services_are_complete<E: Engine>()
-    ensures { ServicesAreComplete E.calls }
 {}

@@ -1,11 +1,13 @@
 // The module: private fields, and one public call for a command.
-ghost use Rattle.std.specs.Prelude.{◌≡◌, ◌≢◌, ◌<◌, ◌^◌, ◌≤◌, [], ℕ, true, false, IfOk, IsTrue, List, Some, if◌then◌else◌};
+ghost use Rattle.std.specs.Prelude.{◌≡◌, ◌≢◌, ◌<◌, ◌^◌, ◌≤◌, [], ℕ, true, false, IfOk, IsTrue, List, Some, None, if◌then◌else◌};
 ghost use Rattle.service_table.specs.Services.{is_permitted, is_cryptographic};
 ghost use Rattle.service_table.specs.Numbers.{service_numbered};
+ghost use Rattle.service_table.specs.Failures.{failure_code};
+ghost use Rattle.service_table.specs.declared.failure.Failure.TheVariants as failures;
 ghost use Rattle.outside.specs.declared.traits.Sample.{Sample};
 ghost use Rattle.outside.specs.Explained.{Explained};
 ghost use Rattle.outside.specs.Faults.{FaultCounted};
-ghost use Rattle.module_frames.specs.Requests.{CryptographicRequest, Cryptographic, TestStep, request_value, service_for, IsInRange, IsCryptographicInRange};
+ghost use Rattle.module_frames.specs.Requests.{CryptographicRequest, Cryptographic, TestStep, request_value, service_for, cryptographic_service_for, IsInRange, IsCryptographicInRange};
 ghost use Rattle.module_frames.specs.PublicState.{status_block, sequence_block, no_block};
 ghost use Rattle.module_frames.specs.PublicEffects.{is_period_over, sent_to_tests};
 ghost use Rattle.bits_core.specs.Parameters.{length_fits};
@@ -14,17 +16,16 @@ ghost use Rattle.bits_core.specs.OutboxContents.{holding};
 ghost use Rattle.engine_core.specs.Calls.{IsStandard};
 ghost use Rattle.crypto_services.specs.AtSlots.{slot_at};
 ghost use Rattle.state_model.specs.MachineState.{MachineState, initial_state, state_of};
-ghost use Rattle.state_model.specs.Management.{power_on, request_tests, test_step, select_role, reset, entry_begin, entry_bytes, entry_commit, entry_over, zeroise, zeroise_all};
-ghost use Rattle.state_model.specs.Cryptographic.{cryptographic_step, use_of};
+ghost use Rattle.state_model.specs.Management.{power_on, request_tests, test_step, select_role, reset, entry_begin, entry_bytes, entry_commit, entry_over, zeroise, zeroise_tree, zeroise_all};
+ghost use Rattle.state_model.specs.Cryptographic.{cryptographic_step, failed_by};
 ghost use Rattle.state_model.specs.Step.{step, dispatch, perform, indicated, request_at, is_in_order, number_taken};
 ghost use Rattle.state_model.specs.SelfTesting.{stepped_with};
 ghost use Rattle.state_model.specs.SlotBlock.{header_block, slot_block};
 ghost use Rattle.state_model.specs.Permission.{IsPermittedIn};
 ghost use Rattle.state_model.specs.Represents.{Represents, IsRepresented, IsServiceResult, Replies};
-ghost use Rattle.state_model.specs.Meaning.{AnswersByTheStandards};
 
 use crate::commit::commit;
-use crate::cryptographic::run_cryptographic_service;
+use crate::cryptographic::{note_link, perform};
 use crate::entry::{Entry, Target};
 use crate::self_testing::{due_at_first_use, run_step_test, run_test, seed_when_due, test_for};
 use bits_core::{Header, Outbox, SlotId};
@@ -34,7 +35,7 @@ use module_frames::{Command, PublicState, Reply, Request, read_request};
 use noise_health::Health;
 use outside::Noise;
 use self_tests::Tested;
-use service_table::{Service, State, Status, is_cryptographic, permitted, service_of};
+use service_table::{Failure, Service, State, Status, is_cryptographic, permitted, service_of};
 use std::alloc::{AllocError, Global};
 use std::marker::Model;
 
@@ -88,11 +89,11 @@ fn header_block(length: usize, header: &Header) -> [u8; 12]
 
 // The outcome of a command that did no cryptographic service.
 fn management_outcome(status: Status) -> Outcome
-    ensures { result ≡ record { status = status; code = 0; approved = false } }
+    ensures { result ≡ record { status = status; failure = None; approved = false } }
 {
     Outcome {
         status,
-        code: 0,
+        failure: None,
         approved: false,
     }
 }
@@ -104,6 +105,16 @@ fn after_test(public: PublicState, refused: Option<Status>) -> (PublicState, Sta
     match refused {
         None => (public.test_done(), Status::Ok),
         Some(status) => (public, status),
+    }
+}
+
+// The public state where something failed in a service, or nothing did.
+fn after_failure(public: PublicState, failure: Option<Failure>) -> PublicState
+    ensures { result ≡ failed_by failure public }
+{
+    match failure {
+        None => public,
+        Some(failure) => public.has_failed(failure),
     }
 }
 
@@ -171,7 +182,7 @@ impl<E: Engine> Module<E> {
         requires { self.old.public.state ≡ State.SelfTest }
         ensures answer { Explained (N.left noise.old) (N.left noise.new) (λ events left. (s : MachineState E) → Represents self.old s →
             let after = test_step E.calls s events in IsServiceResult after self.new result no_block [] × (after.left ≡ left)) }
-        ensures noise_failed { result ≡ Status.NoiseFault → self.new.public.error_code ≡ 0x0400 → FaultCounted (N.faults noise.old) (N.faults noise.new) }
+        ensures noise_failed { result ≡ Status.NoiseFault → self.new.public.error_code ≡ failure_code failures.NoiseFailed → FaultCounted (N.faults noise.old) (N.faults noise.new) }
     {
         let tests_passed = self.tests_passed;
         let judged = run_step_test(
@@ -269,6 +280,13 @@ impl<E: Engine> Module<E> {
         self.parts.vault.zeroise(slot);
     }
 
+    // ZeroiseTree: the slot, each slot whose row holds it, and the rows of all these are empty.
+    fn zeroise_tree(&mut self, slot: SlotId)
+        ensures { (s : MachineState E) → Represents self.old s → Represents self.new (zeroise_tree s slot) }
+    {
+        self.parts.vault.zeroise_tree(slot);
+    }
+
     // ZeroiseAll: all slots and rows are empty.
     fn zeroise_all(&mut self)
         ensures { (s : MachineState E) → Represents self.old s → Represents self.new (zeroise_all s) }
@@ -294,13 +312,22 @@ impl<E: Engine> Module<E> {
         *block = self.public.status_block(self.tests_passed.bits());
     }
 
-    // Does a cryptographic service: the use is counted before the slots are looked at, and the period may be over after that.
-    fn run_cryptographic_service(&mut self, request: &Request<'_>, payload: &mut Outbox) -> Outcome
+    // Does a cryptographic service: the use is counted, tested where it is the first, and linked to its key before the draw and the
+    // slots; and the period may be over after that.
+    fn run_cryptographic_service<N: Noise>(
+        &mut self,
+        noise: &mut N,
+        service: Service,
+        request: &Request<'_>,
+        payload: &mut Outbox,
+    ) -> Outcome
         requires payload { payload.old ≡ holding [] LARGEST_PAYLOAD }
-        requires cryptographic { (what : CryptographicRequest) × (request_value request.now ≡ Cryptographic what) × IsCryptographicInRange what }
+        requires cryptographic { (what : CryptographicRequest) × (request_value request.now ≡ Cryptographic what) × IsCryptographicInRange what × (cryptographic_service_for what ≡ service) }
         requires permitted { is_permitted Service.Hash self.old.public.state ≡ true }
-        ensures answer { (s : MachineState E) (events : List Sample) (what : CryptographicRequest) → Represents self.old s → request_value request.now ≡ Cryptographic what →
-            IsServiceResult (cryptographic_step E.calls s events what) self.new result.status no_block payload.new.bytes }
+        ensures answer { Explained (N.left noise.old) (N.left noise.new) (λ events left. (s : MachineState E) → Represents self.old s → (what : CryptographicRequest) →
+            request_value request.now ≡ Cryptographic what →
+            let after = cryptographic_step E.calls s events what in IsServiceResult after self.new result.status no_block payload.new.bytes × (after.left ≡ left)) }
+        ensures noise_failed { result.status ≡ Status.NoiseFault → self.new.public.error_code ≡ failure_code failures.NoiseFailed → FaultCounted (N.faults noise.old) (N.faults noise.new) }
         ensures approved { result.approved ≡ indicated (Some (request_value request.now)) result.status self.new.vault.slots }
         ensures room { payload.new.room ≡ LARGEST_PAYLOAD }
     {
@@ -312,8 +339,10 @@ impl<E: Engine> Module<E> {
             self.public = judged.public;
             return management_outcome(status);
         }
-        let outcome = run_cryptographic_service(&mut self.parts, request, payload);
-        let (public, tests_passed) = settled(judged.public, judged.tests_passed);
+        note_link(&mut self.parts.vault, request);
+        let outcome = perform(&mut self.parts, noise, service, request, payload);
+        let performed = after_failure(judged.public, outcome.failure);
+        let (public, tests_passed) = settled(performed, judged.tests_passed);
         self.public = public;
         self.tests_passed = tests_passed;
         outcome
@@ -349,12 +378,24 @@ impl<E: Engine> Module<E> {
             Request::EntryCommit { check } => return self.entry_commit(check),
             Request::EntryAbort => self.entry_abort(),
             Request::Zeroise { slot } => self.zeroise(slot),
+            Request::ZeroiseTree { slot } => self.zeroise_tree(slot),
             Request::ZeroiseAll => self.zeroise_all(),
             Request::ShowSlot { slot } => self.show_slot(slot, block),
             Request::TestStep
             | Request::Hash { .. }
             | Request::Mac { .. }
-            | Request::MacVerify { .. } => { unreachable!() }
+            | Request::MacVerify { .. }
+            | Request::Seal { .. }
+            | Request::SealIv { .. }
+            | Request::Open { .. }
+            | Request::Wrap { .. }
+            | Request::Unwrap { .. }
+            | Request::WrapPad { .. }
+            | Request::UnwrapPad { .. }
+            | Request::Derive { .. }
+            | Request::Random { .. }
+            | Request::Generate { .. }
+            | Request::Reseed { .. } => { unreachable!() }
         }
         Status::Ok
     }
@@ -388,7 +429,7 @@ impl<E: Engine> Module<E> {
         ensures answer { Explained (N.left noise.old) (N.left noise.new) (λ events left. (s : MachineState E) → Represents self.old s →
             let after = step E.calls s events command.now in
             IsServiceResult after self.new result.status block.new payload.new.bytes × (after.left ≡ left)) }
-        ensures noise_failed { result.status ≡ Status.NoiseFault → self.new.public.error_code ≡ 0x0400 → FaultCounted (N.faults noise.old) (N.faults noise.new) }
+        ensures noise_failed { result.status ≡ Status.NoiseFault → self.new.public.error_code ≡ failure_code failures.NoiseFailed → FaultCounted (N.faults noise.old) (N.faults noise.new) }
         ensures approved { result.approved ≡ indicated (request_at (service_numbered command.now.service) command.now.body) result.status self.new.vault.slots }
         ensures room { payload.new.room ≡ LARGEST_PAYLOAD }
     {
@@ -412,7 +453,7 @@ impl<E: Engine> Module<E> {
         ensures answer { Explained (N.left noise.old) (N.left noise.new) (λ events left. (s : MachineState E) → Represents self.old s →
             let after = dispatch E.calls s events (service_numbered command.now.service) command.now.body in
             IsServiceResult after self.new result.status block.new payload.new.bytes × (after.left ≡ left)) }
-        ensures noise_failed { result.status ≡ Status.NoiseFault → self.new.public.error_code ≡ 0x0400 → FaultCounted (N.faults noise.old) (N.faults noise.new) }
+        ensures noise_failed { result.status ≡ Status.NoiseFault → self.new.public.error_code ≡ failure_code failures.NoiseFailed → FaultCounted (N.faults noise.old) (N.faults noise.new) }
         ensures approved { result.approved ≡ indicated (request_at (service_numbered command.now.service) command.now.body) result.status self.new.vault.slots }
         ensures room { payload.new.room ≡ LARGEST_PAYLOAD }
     {
@@ -426,7 +467,7 @@ impl<E: Engine> Module<E> {
             return management_outcome(Status::BadBody);
         };
         if is_cryptographic(service) {
-            return self.run_cryptographic_service(&request, payload);
+            return self.run_cryptographic_service(noise, service, &request, payload);
         }
         if service == Service::TestStep {
             return management_outcome(self.test_step(noise));
@@ -442,10 +483,8 @@ impl<E: Engine> Module<E> {
         ensures step { Explained (N.left noise.old) (N.left noise.new) (λ events left. (s : MachineState E) → Represents self.old s →
             let after = step E.calls s events command.now in Replies command.now after self.new reply.new × (after.left ≡ left)) }
         // That the noise failed is told only where its count of faults rose.
-        ensures noise_failed { reply.new.status ≡ Status.NoiseFault → reply.new.code ≡ 0x0400 → FaultCounted (N.faults noise.old) (N.faults noise.new) }
+        ensures noise_failed { reply.new.status ≡ Status.NoiseFault → reply.new.code ≡ failure_code failures.NoiseFailed → FaultCounted (N.faults noise.old) (N.faults noise.new) }
         ensures represented { IsRepresented self.new }
-        // With a standard engine, what a cryptographic service gives is the standard's value, with any noise.
-        ensures meaning { IsStandard E.calls → AnswersByTheStandards command.now self.old.vault.slots reply.new.status reply.new.payload.bytes }
     {
         // Opened, so that the module's rules are known of what it finds.
         let _ = &self.public;

@@ -3,6 +3,7 @@ ghost use Rattle.std.specs.Prelude.{◌≡◌, ◌≢◌, ◌<◌, ℕ, List, So
 ghost use Rattle.noise_health.specs.Counts.{Counts};
 ghost use Rattle.outside.specs.Explained.{Explained};
 ghost use Rattle.outside.specs.Faults.{FaultCounted};
+ghost use Rattle.service_table.specs.Failures.{failure_code};
 ghost use Rattle.module_frames.specs.Requests.{CryptographicRequest, Cryptographic, request_value};
 ghost use Rattle.state_model.specs.SelfTesting.{judgement, tested, image_judgement, step_tested, is_seed_due, seeded_when, IsSeeded, test_for, due_at_first_use};
 
@@ -125,7 +126,7 @@ pub fn seed_when_due<E: Engine, N: Noise>(
         IsSeeded (seeded_when E.calls parts.old.engine parts.old.drbg samples events (is_seed_due judged.public judged.refused)) judged
         parts.new.engine parts.new.drbg parts.new.health result left) }
     ensures vault { parts.new.vault ≡ parts.old.vault }
-    ensures noise_failed { result.refused ≡ Some Status.NoiseFault → result.public.error_code ≡ 0x0400 → FaultCounted (N.faults noise.old) (N.faults noise.new) }
+    ensures noise_failed { result.refused ≡ Some Status.NoiseFault → result.public.error_code ≡ failure_code Failure.NoiseFailed → FaultCounted (N.faults noise.old) (N.faults noise.new) }
 {
     if !is_seed_due(&judged) {
         return judged;
@@ -148,6 +149,17 @@ pub fn test_for(request: &Request<'_>) -> Option<Test>
         Request::Hash { alg, .. } => test_of(Service::Hash, Some(alg)),
         Request::Mac { alg, .. } => test_of(Service::Mac, Some(alg)),
         Request::MacVerify { alg, .. } => test_of(Service::MacVerify, Some(alg)),
+        Request::Seal { .. } => test_of(Service::Seal, None),
+        Request::SealIv { .. } => test_of(Service::SealIv, None),
+        Request::Open { .. } => test_of(Service::Open, None),
+        Request::Wrap { .. } => test_of(Service::Wrap, None),
+        Request::Unwrap { .. } => test_of(Service::Unwrap, None),
+        Request::WrapPad { .. } => test_of(Service::WrapPad, None),
+        Request::UnwrapPad { .. } => test_of(Service::UnwrapPad, None),
+        Request::Derive { .. } => test_of(Service::Derive, None),
+        Request::Random { .. } => test_of(Service::Random, None),
+        Request::Generate { .. } => test_of(Service::Generate, None),
+        Request::Reseed { .. } => test_of(Service::Reseed, None),
         Request::PowerOn { .. }
         | Request::TestStep
         | Request::RequestTests
@@ -160,6 +172,7 @@ pub fn test_for(request: &Request<'_>) -> Option<Test>
         | Request::EntryCommit { .. }
         | Request::EntryAbort
         | Request::Zeroise { .. }
+        | Request::ZeroiseTree { .. }
         | Request::ZeroiseAll
         | Request::ShowSlot { .. } => None,
     };

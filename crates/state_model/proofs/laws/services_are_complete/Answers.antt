@@ -1,5 +1,0 @@
-use Rattle.state_model.proofs.Meanings.{services_complete}
-use Rattle.state_model.proofs.laws.services_are_complete.Goals as goal
-
-pub returns : goal.returns
-returns g c = services_complete g.E.Engine.calls
