@@ -1,5 +1,6 @@
 pub mod Numbers
 pub mod Services
 pub mod KnownAnswers
+pub mod Answers
 pub mod Laws
 pub mod Failures

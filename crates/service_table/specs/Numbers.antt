@@ -40,13 +40,14 @@ status_number status.NotExportable = 11
 status_number status.BadLength = 12
 status_number status.CheckFailed = 13
 status_number status.AuthFailed = 14
+status_number status.UnwrapFailed = 15
 status_number status.OutOfOrder = 16
 
 abbrev pub all_statuses : List Status
 all_statuses =
     status.Ok ∷ status.UnknownService ∷ status.NotInState ∷ status.BadBody ∷ status.TestFailed ∷ status.NoiseFault ∷ status.EmptySlot
     ∷ status.WrongKind ∷ status.WrongDomain ∷ status.Spent ∷ status.OccupiedSlot ∷ status.NotExportable ∷ status.BadLength ∷ status.CheckFailed ∷ status.AuthFailed
-    ∷ status.OutOfOrder ∷ []
+    ∷ status.UnwrapFailed ∷ status.OutOfOrder ∷ []
 
 abbrev pub status_numbered : ℕ → Option Status
 status_numbered number = find (λ s. status_number s == number) all_statuses
@@ -66,15 +67,28 @@ service_number service.EntryAbort = 0x0b
 service_number service.Zeroise = 0x0c
 service_number service.ZeroiseAll = 0x0d
 service_number service.ShowSlot = 0x0e
+service_number service.ZeroiseTree = 0x0f
 service_number service.Hash = 0x10
 service_number service.Mac = 0x11
 service_number service.MacVerify = 0x12
+service_number service.Seal = 0x13
+service_number service.SealIv = 0x14
+service_number service.Open = 0x15
+service_number service.Wrap = 0x16
+service_number service.Unwrap = 0x17
+service_number service.WrapPad = 0x18
+service_number service.UnwrapPad = 0x19
+service_number service.Derive = 0x1a
+service_number service.Random = 0x1b
+service_number service.Generate = 0x1c
+service_number service.Reseed = 0x1d
 
 abbrev pub all_services : List Service
 all_services =
     service.PowerOn ∷ service.TestStep ∷ service.RequestTests ∷ service.ShowStatus ∷ service.ShowVersion ∷ service.SelectRole ∷ service.Reset
-    ∷ service.EntryBegin ∷ service.EntryBytes ∷ service.EntryCommit ∷ service.EntryAbort ∷ service.Zeroise ∷ service.ZeroiseAll ∷ service.ShowSlot
-    ∷ service.Hash ∷ service.Mac ∷ service.MacVerify ∷ []
+    ∷ service.EntryBegin ∷ service.EntryBytes ∷ service.EntryCommit ∷ service.EntryAbort ∷ service.Zeroise ∷ service.ZeroiseAll ∷ service.ShowSlot ∷ service.ZeroiseTree
+    ∷ service.Hash ∷ service.Mac ∷ service.MacVerify ∷ service.Seal ∷ service.SealIv ∷ service.Open ∷ service.Wrap ∷ service.Unwrap ∷ service.WrapPad
+    ∷ service.UnwrapPad ∷ service.Derive ∷ service.Random ∷ service.Generate ∷ service.Reseed ∷ []
 
 abbrev pub service_numbered : ℕ → Option Service
 service_numbered number = find (λ s. service_number s == number) all_services

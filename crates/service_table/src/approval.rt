@@ -16,6 +16,8 @@ pub enum Approval {
     Always,
     /// The service is cryptographic: one is where its MAC has at least four bytes.
     ByMacLength,
+    /// The service is cryptographic: none is.
+    Never,
 }
 
 /// Which uses of a service are approved.
@@ -36,9 +38,21 @@ pub fn approval_of(service: Service) -> Approval
         | Service::EntryAbort
         | Service::Zeroise
         | Service::ZeroiseAll
-        | Service::ShowSlot => Approval::NotCryptographic,
-        Service::Hash => Approval::Always,
+        | Service::ShowSlot
+        | Service::ZeroiseTree => Approval::NotCryptographic,
+        Service::Hash
+        | Service::Seal
+        | Service::Open
+        | Service::Wrap
+        | Service::Unwrap
+        | Service::WrapPad
+        | Service::UnwrapPad
+        | Service::Derive
+        | Service::Random
+        | Service::Generate
+        | Service::Reseed => Approval::Always,
         Service::Mac | Service::MacVerify => Approval::ByMacLength,
+        Service::SealIv => Approval::Never,
     }
 }
 
@@ -48,7 +62,7 @@ pub fn is_cryptographic(service: Service) -> bool
 {
     match approval_of(service) {
         Approval::NotCryptographic => false,
-        Approval::Always | Approval::ByMacLength => true,
+        Approval::Always | Approval::ByMacLength | Approval::Never => true,
     }
 }
 
@@ -58,7 +72,7 @@ pub fn approved(service: Service, mac_length: usize) -> bool
     ensures { result ≡ is_approved service mac_length }
 {
     match approval_of(service) {
-        Approval::NotCryptographic => false,
+        Approval::NotCryptographic | Approval::Never => false,
         Approval::Always => true,
         Approval::ByMacLength => mac_length >= MAC_LEAST,
     }

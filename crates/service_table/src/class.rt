@@ -32,7 +32,20 @@ pub fn class_of(service: Service) -> Class
         | Service::Zeroise
         | Service::ZeroiseAll
         | Service::ShowSlot
-        | Service::MacVerify => Class::Nothing,
-        Service::Hash | Service::Mac => Class::Payload,
+        | Service::ZeroiseTree
+        | Service::MacVerify
+        | Service::Unwrap
+        | Service::UnwrapPad
+        | Service::Derive
+        | Service::Generate
+        | Service::Reseed => Class::Nothing,
+        Service::Hash
+        | Service::Mac
+        | Service::Seal
+        | Service::SealIv
+        | Service::Open
+        | Service::Wrap
+        | Service::WrapPad
+        | Service::Random => Class::Payload,
     }
 }

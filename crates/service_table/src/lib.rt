@@ -1,6 +1,7 @@
-//! The table of services: numbers, states in which each is permitted, classes of output, approved uses and known-answer tests.
+//! The table of services: numbers, states in which each is permitted, classes of output, approved uses, known-answer tests and answers.
 #![tactic(auto)]
 
+mod answers;
 mod approval;
 mod class;
 mod failure;
@@ -12,6 +13,7 @@ mod status;
 #[cfg(test)]
 mod tests;
 
+pub use answers::may_answer;
 pub use approval::{Approval, approval_of, approved, is_cryptographic};
 pub use class::{Class, class_of};
 pub use failure::Failure;

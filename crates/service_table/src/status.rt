@@ -35,6 +35,8 @@ pub enum Status {
     CheckFailed,
     /// The MAC isn't that of the text.
     AuthFailed,
+    /// The wrapped bytes unwrap to nothing (SP 800-38F, 6.2 and 6.3).
+    UnwrapFailed,
     /// The command's sequence number isn't the expected one.
     OutOfOrder,
 }
@@ -60,6 +62,7 @@ impl Status {
             Status::BadLength => 12,
             Status::CheckFailed => 13,
             Status::AuthFailed => 14,
+            Status::UnwrapFailed => 15,
             Status::OutOfOrder => 16,
         }
     }
@@ -84,6 +87,7 @@ impl Status {
             12 => Some(Status::BadLength),
             13 => Some(Status::CheckFailed),
             14 => Some(Status::AuthFailed),
+            15 => Some(Status::UnwrapFailed),
             16 => Some(Status::OutOfOrder),
             _ => None,
         }
