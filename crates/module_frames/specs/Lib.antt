@@ -1,3 +1,9 @@
+pub mod RequestValues
+pub mod SharedParts
+pub mod SealingBodies
+pub mod WrappingBodies
+pub mod DeriveBodies
+pub mod GeneratorBodies
 pub mod Requests
 pub mod CommandFrames
 pub mod Buffers

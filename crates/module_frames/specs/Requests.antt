@@ -1,41 +1,24 @@
 -- The forms of bodies: what a body asks of a service, and else nothing.
-use Rattle.std.specs.Prelude.{ℕ, ◌≡◌, ◌≤◌, ◌<◌, ◌==◌, ◌&&◌, nat_le, nat_lt, Bool, List, [], ◌∷◌, length, take, drop, slice_index, Option, Some, None, IsTrue, if◌then◌else◌}
+use Rattle.std.specs.Prelude.{ℕ, ◌≡◌, ◌≢◌, ◌≤◌, ◌<◌, ◌+◌, ◌==◌, ◌&&◌, nat_le, nat_lt, Bool, true, false, List, length, take, drop, slice_index, Option, Some, None, IsTrue, if◌then◌else◌}
 use Rattle.std.specs.Option.{option_map}
 use Rattle.std.specs.Int.{from_be_bytes, w32}
-use Rattle.bits_core.specs.declared.parameter.Header.{Header}
-use Rattle.bits_core.specs.declared.parameter.Kind.{Kind}
-use Rattle.bits_core.specs.declared.parameter.Domain.{Domain}
 use Rattle.bits_core.specs.declared.algorithm.Alg.{Alg}
-use Rattle.bits_core.specs.Parameters.{kind_of, domain_of, length_fits}
+use Rattle.bits_core.specs.declared.limits.TheConstants.{LARGEST_BODY, LARGEST_PAYLOAD}
+use Rattle.bits_core.specs.declared.parameter.Domain.TheVariants.{Approved}
+use Rattle.bits_core.specs.Parameters.{length_fits}
 use Rattle.bits_core.specs.Algorithms.{alg_of, alg_size}
 use Rattle.service_table.specs.declared.service.Service.{Service}
 use Rattle.service_table.specs.declared.service.Service.TheVariants as service
+use Rattle.service_table.specs.Services.{wrapping_service, unwrapping_service}
 use Rattle.module_frames.specs.declared.request.Request.{Request}
 use Rattle.module_frames.specs.declared.request.Request.TheVariants as request
-
--- what a command asks of a cryptographic service
-pub data CryptographicRequest : Type 0 where
-  Hash : (alg : Alg) (text : List ℕ) → CryptographicRequest
-  Mac : (slot : ℕ) (alg : Alg) (mac_length : ℕ) (text : List ℕ) → CryptographicRequest
-  MacVerify : (slot : ℕ) (alg : Alg) (tag text : List ℕ) → CryptographicRequest
-
--- what a command asks for
-pub data RequestValue : Type 0 where
-  PowerOn : (period : ℕ) → RequestValue
-  TestStep : RequestValue
-  RequestTests : RequestValue
-  ShowStatus : RequestValue
-  ShowVersion : RequestValue
-  SelectRole : (role : ℕ) → RequestValue
-  Reset : RequestValue
-  EntryBegin : (slot : ℕ) (header : Header) (long : ℕ) → RequestValue
-  EntryBytes : (piece : List ℕ) → RequestValue
-  EntryCommit : (check : List ℕ) → RequestValue
-  EntryAbort : RequestValue
-  Zeroise : (slot : ℕ) → RequestValue
-  ZeroiseAll : RequestValue
-  ShowSlot : (slot : ℕ) → RequestValue
-  Cryptographic : (what : CryptographicRequest) → RequestValue
+pub use Rattle.module_frames.specs.RequestValues.{CryptographicRequest, Hash, Mac, MacVerify, Seal, SealIv, Open, Wrap, Unwrap, Derive, Random, Generate, Reseed}
+pub use Rattle.module_frames.specs.RequestValues.{RequestValue, PowerOn, TestStep, RequestTests, ShowStatus, ShowVersion, SelectRole, Reset, EntryBegin, EntryBytes, EntryCommit, EntryAbort, Zeroise, ZeroiseAll, ShowSlot, ZeroiseTree, Cryptographic}
+use Rattle.module_frames.specs.SharedParts.{new_parameter_of}
+use Rattle.module_frames.specs.SealingBodies.{seal_of, seal_iv_of, open_of}
+use Rattle.module_frames.specs.WrappingBodies.{wrap_of, unwrap_of, is_wrapped_length, unwrapped_fits}
+use Rattle.module_frames.specs.DeriveBodies.{derive_of}
+use Rattle.module_frames.specs.GeneratorBodies.{random_of, generate_of, reseed_of}
 
 abbrev pub request_value : Request → RequestValue
 request_value (request.PowerOn period) = PowerOn period
@@ -52,9 +35,22 @@ request_value request.EntryAbort = EntryAbort
 request_value (request.Zeroise slot) = Zeroise slot
 request_value request.ZeroiseAll = ZeroiseAll
 request_value (request.ShowSlot slot) = ShowSlot slot
+request_value (request.ZeroiseTree slot) = ZeroiseTree slot
 request_value (request.Hash alg text) = Cryptographic (Hash alg text.now)
 request_value (request.Mac slot alg mac_length text) = Cryptographic (Mac slot alg mac_length text.now)
 request_value (request.MacVerify slot alg tag text) = Cryptographic (MacVerify slot alg tag.now text.now)
+request_value (request.Seal slot tag_length aad text) = Cryptographic (Seal slot tag_length aad.now text.now)
+request_value (request.SealIv slot tag_length iv aad text) = Cryptographic (SealIv slot tag_length iv.now aad.now text.now)
+request_value (request.Open slot iv aad text tag) = Cryptographic (Open slot iv.now aad.now text.now tag.now)
+request_value (request.Wrap kek second) = Cryptographic (Wrap false kek second)
+request_value (request.Unwrap kek target kind export uses wrapped) = Cryptographic (Unwrap false kek target kind export uses wrapped.now)
+request_value (request.WrapPad kek second) = Cryptographic (Wrap true kek second)
+request_value (request.UnwrapPad kek target kind export uses wrapped) = Cryptographic (Unwrap true kek target kind export uses wrapped.now)
+request_value (request.Derive source target kind export uses long label context) =
+    Cryptographic (Derive source target kind export uses long label.now context.now)
+request_value (request.Random long additional) = Cryptographic (Random long additional.now)
+request_value (request.Generate target header long) = Cryptographic (Generate target header long)
+request_value (request.Reseed additional) = Cryptographic (Reseed additional.now)
 
 -- a period of four bytes, at most 1,000,000
 abbrev pub power_on_of : List ℕ → Option RequestValue
@@ -70,25 +66,9 @@ select_role_of body =
     then Some (SelectRole (slice_index body 0))
     else None
 
--- an entry of known kind and domain: a slot below 16, a flag, at least one use, and a length that fits
-abbrev pub entry_of : ℕ → Option Kind → Option Domain → ℕ → ℕ → ℕ → Option RequestValue
-entry_of slot (Some kind) (Some domain) export uses long =
-    if nat_lt slot 16 && (nat_le export 1 && (nat_le 1 uses && length_fits kind domain long))
-    then Some (EntryBegin slot (record { kind = kind; domain = domain; export = export == 1; uses = uses }) long)
-    else None
-entry_of slot None domain export uses long = None
-entry_of slot (Some kind) None export uses long = None
-
-abbrev pub begin_of : ℕ → ℕ → ℕ → ℕ → ℕ → ℕ → Option RequestValue
-begin_of slot kind domain export uses long = entry_of slot (kind_of kind) (domain_of domain) export uses long
-
--- slot, kind, domain and export flag in a byte each, uses in four bytes, length in a byte
+-- a parameter that is to be entered
 abbrev pub entry_begin_of : List ℕ → Option RequestValue
-entry_begin_of body =
-    if length body == 9
-    then begin_of (slice_index body 0) (slice_index body 1) (slice_index body 2) (slice_index body 3)
-    (from_be_bytes w32 (slice_index body 4 ∷ slice_index body 5 ∷ slice_index body 6 ∷ slice_index body 7 ∷ [])) (slice_index body 8)
-    else None
+entry_begin_of body = option_map (λ new. EntryBegin new.slot new.header new.length) (new_parameter_of body)
 
 -- 1 to 64 bytes of a parameter
 abbrev pub piece_of : List ℕ → Option RequestValue
@@ -162,15 +142,47 @@ request_of service.EntryAbort body = empty_of body EntryAbort
 request_of service.Zeroise body = option_map (λ slot. Zeroise slot) (slot_of body)
 request_of service.ZeroiseAll body = empty_of body ZeroiseAll
 request_of service.ShowSlot body = option_map (λ slot. ShowSlot slot) (slot_of body)
+request_of service.ZeroiseTree body = option_map (λ slot. ZeroiseTree slot) (slot_of body)
 request_of service.Hash body = hash_of body
 request_of service.Mac body = mac_of body
 request_of service.MacVerify body = mac_verify_of body
+request_of service.Seal body = seal_of body
+request_of service.SealIv body = seal_iv_of body
+request_of service.Open body = open_of body
+request_of service.Wrap body = wrap_of false body
+request_of service.Unwrap body = unwrap_of false body
+request_of service.WrapPad body = wrap_of true body
+request_of service.UnwrapPad body = unwrap_of true body
+request_of service.Derive body = derive_of body
+request_of service.Random body = random_of body
+request_of service.Generate body = generate_of body
+request_of service.Reseed body = reseed_of body
 
 -- the numbers of a request are within their bounds
 abbrev pub IsCryptographicInRange : CryptographicRequest → Type 0
 IsCryptographicInRange (Hash alg text) = Unit {0}
 IsCryptographicInRange (Mac slot alg mac_length text) = (slot < 16) × (1 ≤ mac_length) × (mac_length ≤ alg_size alg)
 IsCryptographicInRange (MacVerify slot alg tag text) = (slot < 16) × (1 ≤ length tag) × (length tag ≤ alg_size alg)
+IsCryptographicInRange (Seal slot tag_length aad text) =
+    (slot < 16) × (12 ≤ tag_length) × (tag_length ≤ 16) × (length aad ≤ LARGEST_BODY) × (length text ≤ LARGEST_BODY)
+    × (12 + length text + tag_length ≤ LARGEST_PAYLOAD)
+IsCryptographicInRange (SealIv slot tag_length iv aad text) =
+    (slot < 16) × (12 ≤ tag_length) × (tag_length ≤ 16) × (1 ≤ length iv) × (length iv ≤ 255) × (length aad ≤ LARGEST_BODY)
+    × (length text ≤ LARGEST_BODY) × (length text + tag_length ≤ LARGEST_PAYLOAD)
+IsCryptographicInRange (Open slot iv aad text tag) =
+    (slot < 16) × (12 ≤ length tag) × (length tag ≤ 16) × (1 ≤ length iv) × (length iv ≤ 255) × (length aad ≤ LARGEST_BODY)
+    × (length text ≤ LARGEST_BODY)
+IsCryptographicInRange (Wrap pad kek second) = (kek < 16) × (second < 16) × (kek ≢ second)
+IsCryptographicInRange (Unwrap pad kek target kind export uses wrapped) =
+    (kek < 16) × (target < 16) × (kek ≢ target) × (1 ≤ uses) × IsTrue (is_wrapped_length pad (length wrapped))
+    × IsTrue (unwrapped_fits pad kind (length wrapped))
+IsCryptographicInRange (Derive source target kind export uses long label context) =
+    (source < 16) × (target < 16) × (source ≢ target) × (1 ≤ uses) × IsTrue (length_fits kind Approved long)
+    × (length label ≤ 255) × (length context ≤ 255)
+IsCryptographicInRange (Random long additional) = (1 ≤ long) × (long ≤ 65536) × (length additional ≤ 256)
+IsCryptographicInRange (Generate target header long) =
+    (target < 16) × (1 ≤ header.uses) × IsTrue (length_fits header.kind header.domain long)
+IsCryptographicInRange (Reseed additional) = length additional ≤ 256
 
 abbrev pub IsInRange : RequestValue → Type 0
 IsInRange (PowerOn period) = period ≤ 1000000
@@ -187,6 +199,7 @@ IsInRange EntryAbort = Unit {0}
 IsInRange (Zeroise slot) = slot < 16
 IsInRange ZeroiseAll = Unit {0}
 IsInRange (ShowSlot slot) = slot < 16
+IsInRange (ZeroiseTree slot) = slot < 16
 IsInRange (Cryptographic what) = IsCryptographicInRange what
 
 -- the service that a request is for
@@ -194,6 +207,15 @@ abbrev pub cryptographic_service_for : CryptographicRequest → Service
 cryptographic_service_for (Hash alg text) = service.Hash
 cryptographic_service_for (Mac slot alg mac_length text) = service.Mac
 cryptographic_service_for (MacVerify slot alg tag text) = service.MacVerify
+cryptographic_service_for (Seal slot tag_length aad text) = service.Seal
+cryptographic_service_for (SealIv slot tag_length iv aad text) = service.SealIv
+cryptographic_service_for (Open slot iv aad text tag) = service.Open
+cryptographic_service_for (Wrap pad kek second) = wrapping_service pad
+cryptographic_service_for (Unwrap pad kek target kind export uses wrapped) = unwrapping_service pad
+cryptographic_service_for (Derive source target kind export uses long label context) = service.Derive
+cryptographic_service_for (Random long additional) = service.Random
+cryptographic_service_for (Generate target header long) = service.Generate
+cryptographic_service_for (Reseed additional) = service.Reseed
 
 abbrev pub service_for : RequestValue → Service
 service_for (PowerOn period) = service.PowerOn
@@ -210,4 +232,5 @@ service_for EntryAbort = service.EntryAbort
 service_for (Zeroise slot) = service.Zeroise
 service_for ZeroiseAll = service.ZeroiseAll
 service_for (ShowSlot slot) = service.ShowSlot
+service_for (ZeroiseTree slot) = service.ZeroiseTree
 service_for (Cryptographic what) = cryptographic_service_for what

@@ -2,10 +2,11 @@
 ghost use Rattle.std.specs.Prelude.{◌≡◌, ◌<◌, IfSome};
 ghost use Rattle.std.specs.Option.{option_map};
 ghost use Rattle.bits_core.specs.Algorithms.{alg_of};
-ghost use Rattle.module_frames.specs.Requests.{request_value, power_on_of, select_role_of, entry_begin_of, begin_of, piece_of, commit_of, slot_of, hash_of, is_mac_length, mac_with, mac_of, verify_with, mac_verify_of, service_for, IsInRange};
+ghost use Rattle.module_frames.specs.Requests.{request_value, power_on_of, select_role_of, entry_begin_of, piece_of, commit_of, slot_of, hash_of, is_mac_length, mac_with, mac_of, verify_with, mac_verify_of, service_for, IsInRange};
 
 use crate::Request;
-use bits_core::{Alg, Domain, Header, Kind, SlotId, fits};
+use crate::shared_parts::read_new_parameter;
+use bits_core::{Alg, SlotId};
 use service_table::Service;
 
 /// The largest period that a module may have.
@@ -44,44 +45,11 @@ pub fn read_entry_begin(body: &[u8]) -> Option<Request<'_>>
     ensures in_range { IfSome result (λ request. IsInRange (request_value request)) }
     ensures of_service { IfSome result (λ request. service_for (request_value request) ≡ Service.EntryBegin) }
 {
-    match body {
-        [slot, kind, domain, export, a, b, c, d, length] => {
-            let uses = u32::from_be_bytes([*a, *b, *c, *d]);
-            begin(*slot, *kind, *domain, *export, uses, *length)
-        }
-        _ => None,
-    }
-}
-
-fn begin<'a>(
-    slot: u8,
-    kind: u8,
-    domain: u8,
-    export: u8,
-    uses: u32,
-    length: u8,
-) -> Option<Request<'a>>
-    ensures read { option_map request_value result ≡ begin_of slot kind domain export uses length }
-    ensures in_range { IfSome result (λ request. IsInRange (request_value request)) }
-    ensures of_service { IfSome result (λ request. service_for (request_value request) ≡ Service.EntryBegin) }
-{
-    let slot = SlotId::new(slot)?;
-    let kind = Kind::from_number(kind)?;
-    let domain = Domain::from_number(domain)?;
-    let length = usize::from(length);
-    if export > 1 || uses == 0 || !fits(kind, domain, length) {
-        return None;
-    }
-    let header = Header {
-        kind,
-        domain,
-        export: export == 1,
-        uses,
-    };
+    let new = read_new_parameter(body)?;
     Some(Request::EntryBegin {
-        slot,
-        header,
-        length,
+        slot: new.slot,
+        header: new.header,
+        length: new.length,
     })
 }
 

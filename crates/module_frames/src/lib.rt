@@ -3,14 +3,23 @@
 
 mod bodies;
 mod command;
+mod derive_body;
+#[cfg(test)]
+mod filling_tests;
 mod frames;
+mod generator_bodies;
 mod head;
 mod laws;
 mod public_state;
 mod reply;
 mod request;
+mod sealing_bodies;
+#[cfg(test)]
+mod sealing_tests;
+mod shared_parts;
 #[cfg(test)]
 mod tests;
+mod wrapping_bodies;
 
 pub use command::Command;
 pub use frames::{Fed, Frames};

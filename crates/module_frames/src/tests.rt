@@ -51,7 +51,7 @@ fn broken_heads_are_refused(rt: HostRuntime) {
         (1, 0x00),
         (1, 0x03),
         (1, 0xff),
-        (3, 0x0f),
+        (3, 0x11),
         (4, 0x08),
         (5, 0x02),
         (23, 0x81),
