@@ -18,3 +18,5 @@ pub mod ReplyHeads
 pub mod HeadParts
 pub mod PublicState
 pub mod PublicEffects
+pub mod Sequencing
+pub mod LawfulSteps

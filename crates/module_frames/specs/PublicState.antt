@@ -1,7 +1,9 @@
 -- The part of the module's state that everyone may see, and the status blocks that tell it. The states and blocks are this
 -- project's own.
-use Rattle.std.specs.Prelude.{ℕ, List, ◌∷◌, ◌++◌, replicate, codes}
+use Rattle.std.specs.Prelude.{ℕ, List, ◌∷◌, ◌++◌, replicate, codes, if◌then◌else◌}
 use Rattle.std.specs.Int.{to_be_bytes, w16, w32}
+use Rattle.bits_core.specs.declared.parameter.Header.{Header}
+use Rattle.bits_core.specs.Parameters.{kind_number, domain_number}
 use Rattle.service_table.specs.declared.state.State.TheVariants as state
 use Rattle.service_table.specs.Numbers.{state_number}
 use Rattle.module_frames.specs.declared.public_state.PublicState.{PublicState}
@@ -28,3 +30,9 @@ sequence_block public = to_be_bytes w32 public.next_sequence ++ replicate 8 0
 -- the status block that tells name and version
 abbrev pub version_block : List ℕ
 version_block = codes "SYMMOD 01.00"
+
+-- The status block that tells what a full slot holds, but for its bytes: that it is full, kind, domain, export flag and length in a byte
+-- each, three zeros, and the uses left in four bytes.
+abbrev pub header_block : ℕ → Header → List ℕ
+header_block long header =
+    1 ∷ kind_number header.kind ∷ domain_number header.domain ∷ (if header.export then 1 else 0) ∷ long ∷ 0 ∷ 0 ∷ 0 ∷ to_be_bytes w32 header.uses
