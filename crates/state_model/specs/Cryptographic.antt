@@ -1,6 +1,6 @@
 -- How a cryptographic service is done, in three parts that their types keep apart: what comes before the slots, what is done at them,
 -- and what comes after. The first and the last see no slot and no entry.
-use Rattle.std.specs.Prelude.{ℕ, List, [], ◌∷◌, Option, Some, None, length, if◌then◌else◌}
+use Rattle.std.specs.Prelude.{ℕ, List, [], ◌∷◌, Option, Some, None, if◌then◌else◌}
 use Rattle.drbg_core.specs.declared.generator.Drbg.{Drbg}
 use Rattle.service_table.specs.declared.failure.Failure.{Failure}
 use Rattle.service_table.specs.declared.status.Status.{Status}
@@ -13,6 +13,7 @@ use Rattle.module_frames.specs.PublicState.{no_block}
 use Rattle.module_frames.specs.PublicEffects.{use_counted, is_period_over, sent_to_tests, has_failed}
 use Rattle.module_frames.specs.Requests.{CryptographicRequest, cryptographic_service_for}
 use Rattle.module_frames.specs.Requests as request
+pub use Rattle.module_frames.specs.LawfulSteps.{mac_length_of}
 use Rattle.engine_core.specs.Calls.{Calls}
 use Rattle.random_bits.specs.Draws.{Drawn, drawn, reseeded}
 use Rattle.crypto_services.specs.AtSlots.{SlotsResult, on_no_slot, on_slot, refusal}
@@ -147,21 +148,6 @@ served calls s ready what =
 
 abbrev pub cryptographic_step : {V : Type 0} → Calls V → MachineState V → List Sample → CryptographicRequest → Stepped V
 cryptographic_step calls s events what = served calls s (before_slots calls s.shared events what) what
-
--- the length of the MAC of a request that has one
-abbrev pub mac_length_of : CryptographicRequest → ℕ
-mac_length_of (request.Hash alg text) = 0
-mac_length_of (request.Mac slot alg mac_length text) = mac_length
-mac_length_of (request.MacVerify slot alg tag text) = length tag
-mac_length_of (request.Seal slot tag_length aad text) = 0
-mac_length_of (request.SealIv slot tag_length iv aad text) = 0
-mac_length_of (request.Open slot iv aad text tag) = 0
-mac_length_of (request.Wrap pad kek second) = 0
-mac_length_of (request.Unwrap pad kek target kind export uses wrapped) = 0
-mac_length_of (request.Derive source target kind export uses long label context) = 0
-mac_length_of (request.Random long additional) = 0
-mac_length_of (request.Generate target header long) = 0
-mac_length_of (request.Reseed additional) = 0
 
 -- the slots that a request names
 abbrev pub slots_named : CryptographicRequest → List ℕ

@@ -1,7 +1,6 @@
 -- The self-tests of the machine: known answers are asked of the engine when tests are due, and of each algorithm at its first use since
 -- (ISO/IEC 19790:2012, 7.10.2 and 7.10.3.2; which tests, and when, is this project's own).
 use Rattle.std.specs.Prelude.{◌≡◌, ℕ, ◌==◌, nat_lt, not, List, [], Bool, true, false, Option, Some, None, option_and_then, if◌then◌else◌}
-use Rattle.bits_core.specs.declared.algorithm.Alg.{Alg}
 use Rattle.service_table.specs.KnownAnswers.{test_of}
 use Rattle.service_table.specs.declared.failure.Failure.{Failure}
 use Rattle.service_table.specs.declared.failure.Failure.TheVariants as failure
@@ -21,7 +20,7 @@ use Rattle.random_bits.specs.Draws.{Drawn, instantiated}
 use Rattle.module_frames.specs.declared.public_state.PublicState.{PublicState}
 use Rattle.module_frames.specs.PublicEffects.{has_failed, test_done}
 use Rattle.module_frames.specs.Requests.{CryptographicRequest, cryptographic_service_for}
-use Rattle.module_frames.specs.Requests as request
+pub use Rattle.module_frames.specs.LawfulSteps.{alg_named}
 use Rattle.engine_core.specs.Calls.{Calls}
 use Rattle.state_model.specs.declared.self_testing.Judgement.{Judgement}
 
@@ -81,21 +80,6 @@ pub record IsSeeded {V : Type 0} (seed : Drawn V) (judged : Judgement) (engine :
   pub same_judgement : result ≡ noise_judgement judged seed.failure
   pub counts : seed.failure ≡ None → Counts health seed.samples
   pub events_left : seed.left ≡ left
-
--- the hash function that a request names
-abbrev pub alg_named : CryptographicRequest → Option Alg
-alg_named (request.Hash alg text) = Some alg
-alg_named (request.Mac slot alg mac_length text) = Some alg
-alg_named (request.MacVerify slot alg tag text) = Some alg
-alg_named (request.Seal slot tag_length aad text) = None
-alg_named (request.SealIv slot tag_length iv aad text) = None
-alg_named (request.Open slot iv aad text tag) = None
-alg_named (request.Wrap pad kek second) = None
-alg_named (request.Unwrap pad kek target kind export uses wrapped) = None
-alg_named (request.Derive source target kind export uses long label context) = None
-alg_named (request.Random long additional) = None
-alg_named (request.Generate target header long) = None
-alg_named (request.Reseed additional) = None
 
 -- the test of what a request uses
 abbrev pub test_for : CryptographicRequest → Option Test

@@ -13,6 +13,7 @@ use Rattle.module_frames.specs.Requests.{RequestValue, request_of}
 use Rattle.module_frames.specs.Requests as request
 use Rattle.module_frames.specs.PublicState.{no_block, status_block, sequence_block, version_block}
 use Rattle.module_frames.specs.PublicEffects.{sequence_taken}
+pub use Rattle.module_frames.specs.Sequencing.{is_in_order}
 use Rattle.engine_core.specs.Calls.{Calls}
 use Rattle.crypto_services.specs.AtSlots.{slot_at}
 use Rattle.crypto_services.specs.Indicator.{indicator}
@@ -50,11 +51,6 @@ abbrev pub dispatch : {V : Type 0} → Calls V → MachineState V → List Sampl
 dispatch calls s events None body = refused s status.UnknownService events
 dispatch calls s events (Some service) body =
     if is_permitted service (state_of s) then dispatch_request calls s events (request_of service body) else refused s status.NotInState events
-
--- whether a command comes in its order: without a sequence number, or with the one that is expected
-abbrev pub is_in_order : Option ℕ → ℕ → Bool
-is_in_order None expected = true
-is_in_order (Some number) expected = number == expected
 
 -- the number of a command that comes in its order is taken, whatever becomes of the command
 abbrev pub number_taken : {V : Type 0} → MachineState V → Option ℕ → MachineState V
