@@ -15,8 +15,10 @@ use Rattle.state_model.specs.MachineState.{AreHealthy, IsFailure}
 use Rattle.state_model.specs.Cryptographic.{drawn_for}
 use Rattle.state_model.proofs.Seeding.{IsFine, all_fine}
 
--- what is drawn for a parameter has its length
+-- what is drawn has the length that is asked for
 abbrev pub IsDrawnFor : CryptographicRequest → List ℕ → Type 0
+IsDrawnFor (request.Seal slot tag_length aad text) bytes = AreBytes 12 bytes
+IsDrawnFor (request.Random long additional) bytes = AreBytes long bytes
 IsDrawnFor (request.Generate target header long) bytes = AreBytes long bytes
 IsDrawnFor other bytes = Unit {0}
 
@@ -96,12 +98,12 @@ pub drawn_bytes : {V : Type 0} (calls : Calls V) (engine : V) (generator : Drbg)
 drawn_bytes calls engine generator samples events (request.Hash alg text) keeps none = tt
 drawn_bytes calls engine generator samples events (request.Mac slot alg mac_length text) keeps none = tt
 drawn_bytes calls engine generator samples events (request.MacVerify slot alg tag text) keeps none = tt
-drawn_bytes calls engine generator samples events (request.Seal slot tag_length aad text) keeps none = tt
+drawn_bytes calls engine generator samples events (request.Seal slot tag_length aad text) keeps none = let ready = refreshed calls engine generator samples events in generated_bytes calls ready [] 12 ready.failure keeps refl none
 drawn_bytes calls engine generator samples events (request.SealIv slot tag_length iv aad text) keeps none = tt
 drawn_bytes calls engine generator samples events (request.Open slot iv aad text tag) keeps none = tt
 drawn_bytes calls engine generator samples events (request.Wrap pad kek second) keeps none = tt
 drawn_bytes calls engine generator samples events (request.Unwrap pad kek target kind export uses wrapped) keeps none = tt
 drawn_bytes calls engine generator samples events (request.Derive source target kind export uses long label context) keeps none = tt
-drawn_bytes calls engine generator samples events (request.Random long additional) keeps none = tt
+drawn_bytes calls engine generator samples events (request.Random long additional) keeps none = let ready = refreshed calls engine generator samples events in generated_bytes calls ready additional long ready.failure keeps refl none
 drawn_bytes calls engine generator samples events (request.Generate target header long) keeps none = let ready = refreshed calls engine generator samples events in generated_bytes calls ready [] long ready.failure keeps refl none
 drawn_bytes calls engine generator samples events (request.Reseed additional) keeps none = tt

@@ -21,4 +21,9 @@ pub mod Statuses
 pub mod Replying
 pub mod DataInRoles
 pub mod Zeroising
+pub mod Answering
+pub mod LawfulCodes
+pub mod LawfulNoise
+pub mod LawfulServices
+pub mod Lawfulness
 pub mod Numbering

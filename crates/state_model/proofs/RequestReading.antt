@@ -5,7 +5,7 @@ use Rattle.std.specs.Option.{option_map}
 use Rattle.std.specs.Int.{from_be_bytes, w32}
 use Rattle.std.proofs.lemmas.Bool.Decides.{nat_tests}
 use Rattle.bits_core.specs.ByteList.{IsBytes}
-use Rattle.bits_core.proofs.Bytes.{IsBytes-drop}
+use Rattle.bits_core.proofs.Bytes.{IsBytes-drop, IsBytes-take}
 use Rattle.bits_core.specs.declared.algorithm.Alg.{Alg}
 use Rattle.bits_core.specs.declared.parameter.Kind.{Kind}
 use Rattle.bits_core.specs.declared.parameter.Domain.{Domain}
@@ -28,6 +28,7 @@ use Rattle.module_frames.specs.Requests as request
 
 -- what is kept of a body of bytes is of their size: a piece is bytes, and uses have 32 bits
 abbrev pub IsCryptographicOfBytes : CryptographicRequest → Type 0
+IsCryptographicOfBytes (request.SealIv slot tag_length iv aad text) = IsBytes iv
 IsCryptographicOfBytes (request.Unwrap pad kek target kind export uses wrapped) = (uses < 2 ^ 32) × IsBytes wrapped
 IsCryptographicOfBytes (request.Derive source target kind export uses long label context) = uses < 2 ^ 32
 IsCryptographicOfBytes (request.Generate target header long) = header.uses < 2 ^ 32
@@ -170,9 +171,9 @@ seal_read body slot tag_length aad_length remainder most =
     let text : length (drop aad_length remainder) ≡ length remainder - aad_length = length-drop aad_length remainder in
     ((grind (arith, nat_tests, h), tag.0, tag.1, omega (arith, within, most, aad), omega (arith, most, text), omega (arith, most, text, tag.1)), refl, λ _. tt))
 
-seal_iv_read : (body : List ℕ) (slot tag_length iv_length aad_length : ℕ) (remainder : List ℕ) → length remainder + 7 ≤ 65600
+seal_iv_read : (body : List ℕ) (slot tag_length iv_length aad_length : ℕ) (remainder : List ℕ) → (IsBytes body → IsBytes remainder) → length remainder + 7 ≤ 65600
     → IfSome (seal_iv_with slot tag_length iv_length aad_length remainder) (IsRead service.SealIv body)
-seal_iv_read body slot tag_length iv_length aad_length remainder most =
+seal_iv_read body slot tag_length iv_length aad_length remainder of_body most =
     if_good (nat_lt slot 16 && (is_tag_length tag_length && (is_iv_length iv_length && nat_le (iv_length + aad_length) (length remainder))))
     (request.Cryptographic (request.SealIv slot tag_length (take iv_length remainder) (take aad_length (drop iv_length remainder)) (drop aad_length (drop iv_length remainder)))) (IsRead service.SealIv body)
     (λ h. let within : iv_length + aad_length ≤ length remainder = grind (arith, nat_tests, h) in
@@ -182,7 +183,7 @@ seal_iv_read body slot tag_length iv_length aad_length remainder most =
     let behind : length (drop iv_length remainder) ≡ length remainder - iv_length = length-drop iv_length remainder in
     let aad : length (take aad_length (drop iv_length remainder)) ≡ aad_length = length-take-le aad_length (drop iv_length remainder) (omega (arith, within, behind)) in
     let text : length (drop aad_length (drop iv_length remainder)) ≡ length (drop iv_length remainder) - aad_length = length-drop aad_length (drop iv_length remainder) in
-    ((grind (arith, nat_tests, h), tag.0, tag.1, omega (arith, iv, ivs.0), omega (arith, iv, ivs.1), omega (arith, within, most, aad), omega (arith, most, text, behind), omega (arith, most, text, behind, tag.1)), refl, λ _. tt))
+    ((grind (arith, nat_tests, h), tag.0, tag.1, omega (arith, iv, ivs.0), omega (arith, iv, ivs.1), omega (arith, within, most, aad), omega (arith, most, text, behind), omega (arith, most, text, behind, tag.1)), refl, λ are_bytes. IsBytes-take iv_length remainder (of_body are_bytes)))
 
 open_read : (body : List ℕ) (slot tag_length iv_length aad_length : ℕ) (remainder : List ℕ) → length remainder + 7 ≤ 65600
     → IfSome (open_with slot tag_length iv_length aad_length remainder) (IsRead service.Open body)
@@ -262,7 +263,7 @@ request_read service.MacVerify body =
     (verify_read body (slice_index body 0) (alg_of (slice_index body 1)) (slice_index body 2) (drop 3 body))
 request_read service.ZeroiseTree body = slot_read service.ZeroiseTree body (λ n. request.ZeroiseTree n) (λ n h. (grind (arith, nat_tests, h), refl, λ _. tt))
 request_read service.Seal body = if_headed 6 body _ (IsRead service.Seal body) (seal_read body (slice_index body 0) (slice_index body 1) (number_at body 2) (drop 6 body))
-request_read service.SealIv body = if_headed 7 body _ (IsRead service.SealIv body) (seal_iv_read body (slice_index body 0) (slice_index body 1) (slice_index body 2) (number_at body 3) (drop 7 body))
+request_read service.SealIv body = if_headed 7 body _ (IsRead service.SealIv body) (seal_iv_read body (slice_index body 0) (slice_index body 1) (slice_index body 2) (number_at body 3) (drop 7 body) (λ are_bytes. IsBytes-drop 7 body are_bytes))
 request_read service.Open body = if_headed 7 body _ (IsRead service.Open body) (open_read body (slice_index body 0) (slice_index body 1) (slice_index body 2) (number_at body 3) (drop 7 body))
 request_read service.Wrap body = wrap_read service.Wrap false body refl
 request_read service.Unwrap body = unwrap_read service.Unwrap false body (target_of body) refl (target_read body)

@@ -1,5 +1,5 @@
 -- What holds of every step, with any engine.
-use Rattle.std.specs.Prelude.{◌≡◌, ◌≢◌, ◌↔◌, ◌⊎◌, ℕ, [], List, Some, false}
+use Rattle.std.specs.Prelude.{◌≡◌, ◌≢◌, ◌↔◌, ◌⊎◌, ℕ, [], List, Some, true, false}
 use Rattle.bits_core.specs.ByteList.{IsBytes}
 use Rattle.service_table.specs.declared.class.Class.TheVariants as class
 use Rattle.service_table.specs.declared.service.Service.{Service}
@@ -9,14 +9,17 @@ use Rattle.service_table.specs.declared.status.Status.{Status}
 use Rattle.service_table.specs.declared.status.Status.TheVariants as status
 use Rattle.service_table.specs.Numbers.{service_numbered}
 use Rattle.service_table.specs.Services.{class_of}
+use Rattle.service_table.specs.Answers.{may_answer}
 use Rattle.ssp_slots.specs.Slots.{empty_slot, slot_in, row_in, OthersStay}
 use Rattle.outside.specs.declared.traits.Sample.{Sample}
 use Rattle.module_frames.specs.CommandFrames.{CommandFrame}
 use Rattle.module_frames.specs.PublicState.{sequence_block}
+use Rattle.module_frames.specs.LawfulSteps.{IsLawfulStep}
+use Rattle.module_frames.specs.ReplyFrames.{head_of}
 use Rattle.module_frames.specs.Requests as request
 use Rattle.engine_core.specs.Calls.{Calls}
 use Rattle.state_model.specs.MachineState.{MachineState, IsWellFormed, state_of, vault_of}
-use Rattle.state_model.specs.Step.{step, request_at, is_in_order, number_taken}
+use Rattle.state_model.specs.Step.{step, request_at, is_in_order, number_taken, reply_to}
 
 -- a step for a command whose body is bytes keeps the rules
 abbrev pub StepsKeepTheRules : {V : Type 0} → Calls V → Type 0
@@ -74,3 +77,14 @@ IsRefusedBySlot why = (why ≡ status.EmptySlot) ⊎ ((why ≡ status.WrongKind)
 abbrev pub RefusalsChangeNoSlot : {V : Type 0} → Calls V → Type 0
 RefusalsChangeNoSlot {V} calls = (s : MachineState V) (events : List Sample) (command : CommandFrame) → IsRefusedBySlot (step calls s events command).status
     → (step calls s events command).machine.slots ≡ s.slots
+
+-- the status of each command for a service, in its order and with a body of bytes, is one that the table of answers gives the service
+abbrev pub AnswersAreOfTheTable : {V : Type 0} → Calls V → Type 0
+AnswersAreOfTheTable {V} calls = (s : MachineState V) (events : List Sample) (command : CommandFrame) (found : Service) → IsBytes command.body → IsWellFormed s
+    → service_numbered command.service ≡ Some found → (step calls s events command).status ≢ status.OutOfOrder
+    → may_answer found (step calls s events command).status ≡ true
+
+-- each step for a command whose body is bytes is lawful: the public states before and after it, with the reply's head, keep the rules
+abbrev pub StepsAreLawful : {V : Type 0} → Calls V → Type 0
+StepsAreLawful {V} calls = (s : MachineState V) (events : List Sample) (command : CommandFrame) → IsBytes command.body → IsWellFormed s
+    → (let after = step calls s events command in IsLawfulStep s.shared.public command (head_of (reply_to command after)) after.machine.shared.public)

@@ -1,7 +1,7 @@
 // Laws of the machine, each the contract of a function without a body.
 ghost use Rattle.std.specs.Prelude.{ℕ, List};
 ghost use Rattle.state_model.specs.MachineState.{IsWellFormed, initial_state};
-ghost use Rattle.state_model.specs.Laws.{StepsKeepTheRules, DataNeedsARole, ZeroisingEmptiesAll, ZeroisingEmptiesOne, RefusalsChangeNothing, OutOfOrderByTheNumber, OutOfOrderChangesNothing, NumbersAreTaken};
+ghost use Rattle.state_model.specs.Laws.{StepsKeepTheRules, DataNeedsARole, ZeroisingEmptiesAll, ZeroisingEmptiesOne, RefusalsChangeNothing, OutOfOrderByTheNumber, OutOfOrderChangesNothing, NumbersAreTaken, StepsAreLawful};
 
 use engine_core::Engine;
 
@@ -35,4 +35,10 @@ pub fn numbers_are_in_order<E: Engine>()
     ensures late { OutOfOrderByTheNumber E.calls }
     ensures refused { OutOfOrderChangesNothing E.calls }
     ensures taken { NumbersAreTaken E.calls }
+{}
+
+/// Each step is lawful, with any engine and noise: the public states before and after it keep, with the head of its reply, the rules by
+/// which everyone can check the module who sees commands and replies.
+pub fn steps_are_lawful<E: Engine>()
+    ensures { StepsAreLawful E.calls }
 {}
