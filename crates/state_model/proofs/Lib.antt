@@ -25,5 +25,6 @@ pub mod Answering
 pub mod LawfulCodes
 pub mod LawfulNoise
 pub mod LawfulServices
+pub mod LawfulRequests
 pub mod Lawfulness
 pub mod Numbering
