@@ -11,9 +11,11 @@ use Rattle.service_table.specs.Numbers.{service_numbered}
 use Rattle.service_table.specs.Services.{is_permitted}
 use Rattle.outside.specs.declared.traits.Sample.{Sample}
 use Rattle.module_frames.specs.CommandFrames.{CommandFrame}
-use Rattle.module_frames.specs.LawfulSteps.{IsAnswered, IsRefusedAtOnce, begun, begun_by, begun_with, found_by}
+use Rattle.module_frames.specs.LawfulSteps.{IsLawfulStep, IsAnswered, IsRefusedAtOnce, begun, begun_by, begun_with, found_by}
 use Rattle.module_frames.specs.PublicEffects.{sequence_taken}
-use Rattle.module_frames.specs.ReplyFrames.{head_of}
+use Rattle.module_frames.specs.ReplyFrames.{ReplyFrame, head_of}
+use Rattle.module_frames.specs.Replies.{frame_of}
+use Rattle.module_frames.specs.declared.reply.Reply.{Reply}
 use Rattle.module_frames.specs.Requests.{RequestValue, IsInRange, service_for, request_of}
 use Rattle.module_frames.specs.Sequencing.{is_in_order, sequence_seen}
 use Rattle.module_frames.specs.declared.head.ReplyHead.{ReplyHead}
@@ -23,6 +25,8 @@ use Rattle.crypto_services.specs.Indicator.{is_ok}
 use Rattle.state_model.specs.Laws.{StepsAreLawful}
 use Rattle.state_model.specs.MachineState.{MachineState, IsWellFormed, state_of}
 use Rattle.state_model.specs.Management.{Stepped, refused, with_public}
+use Rattle.state_model.specs.ModuleView.{ModuleView}
+use Rattle.state_model.specs.Represents.{Represents, Replies}
 use Rattle.state_model.specs.Permission.{IsPermittedIn}
 use Rattle.state_model.specs.Step.{step, dispatch, dispatch_request, perform, number_taken, out_of_order, reply_to, request_at, indicated}
 use Rattle.state_model.proofs.Answering.{performed_answers}
@@ -184,3 +188,16 @@ steps_lawful calls met s events command are_bytes rules = record {
   };
   answer = step_met calls s events command met are_bytes rules;
 }
+
+-- so is what a module tells that represents the state before a step and the one after it
+pub told_lawful : {V : Type 0} (calls : Calls V) → Keeps calls → (m n : ModuleView V) (s : MachineState V) (events : List Sample) (command : CommandFrame) (reply : Reply) → IsBytes command.body
+    → Represents m s → Replies command (step calls s events command) n reply → IsLawfulStep m.public command (head_of (frame_of reply)) n.public
+told_lawful {V} calls met m n s events command reply are_bytes represents replies =
+    let after : Stepped V = step calls s events command in
+    let before : m.public ≡ s.shared.public = ap (λ (t : MachineState V). t.shared.public) represents.same in
+    let left : n.public ≡ after.machine.shared.public = ap (λ (t : MachineState V). t.shared.public) replies.represents.same in
+    let Before : PublicState → Type 0 = λ p. IsLawfulStep p command (head_of (frame_of reply)) n.public in
+    let Told : ReplyFrame → Type 0 = λ frame. IsLawfulStep s.shared.public command (head_of frame) n.public in
+    let Left : PublicState → Type 0 = λ p. IsLawfulStep s.shared.public command (head_of (reply_to command after)) p in
+    let lawful = steps_lawful calls met s events command are_bytes represents.well_formed in
+    subst Before (sym before) (subst Told (sym replies.answer) (subst Left (sym left) lawful))

@@ -10,6 +10,10 @@ ghost use Rattle.outside.specs.Faults.{FaultCounted};
 ghost use Rattle.module_frames.specs.Requests.{CryptographicRequest, Cryptographic, TestStep, request_value, service_for, cryptographic_service_for, IsInRange, IsCryptographicInRange};
 ghost use Rattle.module_frames.specs.PublicState.{status_block, sequence_block, no_block};
 ghost use Rattle.module_frames.specs.PublicEffects.{is_period_over, sent_to_tests};
+ghost use Rattle.module_frames.specs.LawfulSteps.{IsLawfulStep};
+ghost use Rattle.module_frames.specs.Replies.{frame_of};
+ghost use Rattle.module_frames.specs.ReplyFrames.{head_of};
+ghost use Rattle.bits_core.specs.ByteList.{IsBytes};
 ghost use Rattle.bits_core.specs.Parameters.{length_fits};
 ghost use Rattle.bits_core.specs.declared.limits.TheConstants.{LARGEST_PAYLOAD};
 ghost use Rattle.bits_core.specs.OutboxContents.{holding};
@@ -85,6 +89,13 @@ fn header_block(length: usize, header: &Header) -> [u8; 12]
         uses[2],
         uses[3],
     ]
+}
+
+// Does nothing: that these are bytes is known where a slice is a parameter.
+fn known_bytes(bytes: &[u8])
+    ensures { IsBytes bytes.now }
+{
+    let _ = bytes;
 }
 
 // The outcome of a command that did no cryptographic service.
@@ -485,9 +496,12 @@ impl<E: Engine> Module<E> {
         // That the noise failed is told only where its count of faults rose.
         ensures noise_failed { reply.new.status ≡ Status.NoiseFault → reply.new.code ≡ failure_code failures.NoiseFailed → FaultCounted (N.faults noise.old) (N.faults noise.new) }
         ensures represented { IsRepresented self.new }
+        // The public state before and after it keep, with the head of the reply, the rules of a lawful step, with any noise.
+        ensures lawful { IsLawfulStep self.old.public command.now (head_of (frame_of reply.new)) self.new.public }
     {
-        // Opened, so that the module's rules are known of what it finds.
+        // Opened, so that the module's rules are known of what it finds, and so is that the body is of bytes.
         let _ = &self.public;
+        known_bytes(command.body());
         reply.clear();
         let outcome = self.step(command, noise, &mut reply.block, &mut reply.payload);
         let number = command.sequence();

@@ -1,8 +1,10 @@
 use Rattle.std.proofs.Common.{[], sym, subst, ap, ◌∙◌}
+use Rattle.bits_core.specs.ByteList.{IsBytes}
 use Rattle.outside.proofs.Explanations.{explained_by}
 use Rattle.state_model.specs.ModuleView.{ModuleView}
-use Rattle.state_model.specs.Represents.{IsRepresented}
+use Rattle.state_model.specs.Represents.{Represents, IsRepresented}
 use Rattle.state_model.specs.Step.{step}
+use Rattle.state_model.proofs.Lawfulness.{told_lawful}
 use Rattle.state_model.proofs.Replying.{replied}
 use Rattle.state_model.proofs.module.Module.command.Goals as goal
 
@@ -28,3 +30,12 @@ pub returns-clause-represented : goal.returns-clause-represented
 returns-clause-represented g c =
     let Held : ModuleView g.row.E.Denot → Type 0 = λ m. IsRepresented m in
     subst Held c.self-2.view_is c.self-2.invariant
+
+pub returns-clause-lawful : goal.returns-clause-lawful
+returns-clause-lawful g c =
+    let held = c.self.invariant in
+    let At : ModuleView g.row.E.Denot → Type 0 = λ m. Represents m held.0 in
+    let represents : Represents c.args.self.now held.0 = subst At c.self.view_is held.1 in
+    let explained = returns-clause-step g c in
+    let are_bytes : IsBytes c.args.command.now.body = subst (λ body. IsBytes body) c.body.ensures.body c.known_bytes.ensures in
+    told_lawful g.E.Engine.calls g.met.E.Engine.keeps c.args.self.now _ held.0 _ c.args.command.now _ are_bytes represents (explained.some.1 [] held.0 represents).0
