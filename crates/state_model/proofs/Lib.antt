@@ -21,4 +21,15 @@ pub mod Statuses
 pub mod Replying
 pub mod DataInRoles
 pub mod Zeroising
+pub mod Steps
+pub mod ZeroisedTrees
+pub mod Refusals
+pub mod SpentUses
+pub mod Answering
 pub mod Numbering
+pub mod Silence
+pub mod DrawingMeanings
+pub mod SealingMeanings
+pub mod FillingMeanings
+pub mod Meanings
+pub mod Completed

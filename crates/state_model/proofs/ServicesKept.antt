@@ -46,7 +46,7 @@ kek_fits kinds.Aes domain uses approved n none fits = cc
 kek_fits kinds.Mac domain uses approved n none fits = cc
 kek_fits kinds.Kdf domain uses approved n none fits = cc
 
-kek_is_key : (slot : Slot) (header : Option Header) (approved : Bool) → source_fault header kinds.Kek approved ≡ None
+pub kek_is_key : (slot : Slot) (header : Option Header) (approved : Bool) → source_fault header kinds.Kek approved ≡ None
     → MatchOption header (slot ≡ empty_slot) (λ known. HoldsParameter known slot) → IsAesKey (parameter slot)
 kek_is_key slot None approved none well = cc
 kek_is_key slot (Some header) approved none well = record {
@@ -93,7 +93,7 @@ fits_any kinds.Kdf domains.Approved n fits = fits
 fits_any kinds.Kdf domains.Other n fits = grind (arith, nat_tests)
 
 -- the lengths of wrapped bytes are those that an engine unwraps
-unwrappable : (pad : Bool) (n : ℕ) → IsTrue (is_wrapped_length pad n) → IsUnwrappable pad n
+pub unwrappable : (pad : Bool) (n : ℕ) → IsTrue (is_wrapped_length pad n) → IsUnwrappable pad n
 unwrappable true n good = (grind (arith, nat_tests), grind (arith, nat_tests), grind (arith, nat_tests))
 unwrappable false n good = (grind (arith, nat_tests), grind (arith, nat_tests), grind (arith, nat_tests))
 
