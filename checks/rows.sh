@@ -8,4 +8,9 @@ if ! command -v python3 >/dev/null; then
     exit 0
 fi
 python3 checks/stored_run.py --check || exit 1
+if python3 -c "import cryptography" 2>/dev/null; then
+    python3 checks/manual_dialogue.py --check || exit 1
+else
+    echo "rows: checks/manual_dialogue.py is skipped, since Python has no cryptography here"
+fi
 exec python3 checks/rows.py
