@@ -137,5 +137,5 @@ class Dialogue:
     def use_up_noise(self):
         """Reseeds until fewer than 256 samples are left; the generator's counter is 1 after it."""
         self.officer()
-        while len(self.machine.noise) >= RESEED:
+        for _ in range(len(self.machine.noise) // RESEED):
             self.ask(Service.RESEED)

@@ -81,15 +81,14 @@ def draw_after_the_interval():
     return d
 
 
-def noise_ends(service, body, status):
-    """The noise ends in the reseed of a draw, whatever its service would be refused for later."""
+def noise_ends(service, body):
+    """The noise ends in the reseed of a draw, whatever its service would be refused for later; its first test was made before."""
     d = Dialogue().start()
     d.enter(3, Kind.MAC)
     d.use_up_noise()
-    for _ in range(RESEED_INTERVAL - 1):
+    for _ in range(RESEED_INTERVAL):
         d.ask(Service.RANDOM, random(1))
     d.user() if service == Service.SEAL else d.officer()
-    d.ask(service, body, status)
     d.ask(service, body, Status.NOISE_FAULT)
     d.ask(Service.SHOW_SLOT, b"\3", Status.NOT_IN_STATE)
     d.show_status()
@@ -319,6 +318,9 @@ def trees_of_refused_uses():
     d.user()
     d.ask(Service.UNWRAP, unwrapping(0, 8, Kind.MAC, WRAPPED), Status.NOT_IN_STATE)
     d.enter(6, Kind.MAC)
+    # Made from the slot 1, and then linked with the slot 0 too.
+    d.ask(Service.DERIVE, derive(1, 9, Kind.MAC))
+    d.ask(Service.UNWRAP, unwrapping(0, 9, Kind.MAC, WRAPPED), Status.OCCUPIED_SLOT)
     for slot in (1, 15, 0):
         d.ask(Service.ZEROISE_TREE, bytes([slot]))
         d.show_all()
@@ -435,9 +437,9 @@ DIALOGUES = {
     "random_after_seal": lambda: sealed_on_nothing(True),
     "random_alone": lambda: sealed_on_nothing(False),
     "draw_after_the_interval": draw_after_the_interval,
-    "noise_ends_in_random": lambda: noise_ends(Service.RANDOM, random(16), Status.OK),
-    "noise_ends_in_seal": lambda: noise_ends(Service.SEAL, seal(9, b""), Status.EMPTY_SLOT),
-    "noise_ends_in_generate": lambda: noise_ends(Service.GENERATE, header(3, Kind.MAC), Status.OCCUPIED_SLOT),
+    "noise_ends_in_random": lambda: noise_ends(Service.RANDOM, random(16)),
+    "noise_ends_in_seal": lambda: noise_ends(Service.SEAL, seal(9, b"")),
+    "noise_ends_in_generate": lambda: noise_ends(Service.GENERATE, header(3, Kind.MAC)),
     "first_uses": lambda: first_uses(OTHER),
     "first_approved_uses": lambda: first_uses(APPROVED),
     "periods": lambda: periods([(service, body, Status.OK) for service, body in USES.items()]),
