@@ -80,7 +80,7 @@ openssl_rate() {
     local mask=$1 size=$2 run
     shift 2
     for ((run = 0; run < runs; run++)); do
-        OPENSSL_ia32cap=$mask openssl speed "$@" -bytes "$size" -seconds 1 2>/dev/null
+        OPENSSL_ia32cap=$mask openssl speed -bytes "$size" -seconds 1 "$@" 2>/dev/null
     done | awk '$NF ~ /^[0-9.]+k$/ && $NF + 0 > best { best = $NF + 0 } END { printf "%.1f", best / 1000 }'
 }
 

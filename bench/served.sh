@@ -4,10 +4,10 @@
 program=$room/module_program
 cp "$top/crates/module_program/out/module_program" "$program"
 cd "$room"
-# What it serves: an image, its digest, and noise for one pass of the tests.
+# What it serves: an image, its digest, and noise for the tests and for a reseed after each 1,024 draws.
 printf abc >image
 "$program" digest image >digest || fail 'the image has no digest'
-head -c 1408 /dev/urandom >noise
+head -c 1000000 /dev/urandom >noise
 serve=("$program" serve image digest noise)
 
 # served NAME COMMAND..: the milliseconds from the file `many` to its replies, less those from the file `few`; the last replies stand in NAME

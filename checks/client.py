@@ -25,8 +25,9 @@ WAS_RESET = "5c0107000100000000000000000000000000000000000000"
 # The image 616263, and its HMAC-SHA-256 under the key of the bytes 00 to 1f, by `openssl dgst -sha256 -mac HMAC`.
 IMAGE = b"abc"
 DIGEST = b"f0133729c4163dede81e21cd47839256da58171238c8a0d874397c73b14e1e47\n"
-# The samples that the three steps of the tests take.
+# The samples that the three steps of the tests take, and a reseed.
 PASS = 1408
+RESEED = 256
 
 TALK = [(POWER_ON_3, POWERED_ON), (SHOW_STATUS, SHOWN_3), (RESET, WAS_RESET)]
 COMMANDS = "".join(command for command, _ in TALK)
@@ -35,7 +36,7 @@ REPLIES = "".join(reply for _, reply in TALK)
 # What the first of several reasons for a refusal is.
 FIRST_REFUSALS = [
     # an unknown service, before the state and the body
-    ("c5010f0000000000", "5c010f010000000000000000000000000000000000000000"),
+    ("c5011e0000000000", "5c011e010000000000000000000000000000000000000000"),
     ("c5017e0000000001ff", "5c017e010000000000000000000000000000000000000000"),
     ("c501000000000000", "5c0100010000000000000000000000000000000000000000"),
     ("c501ff0000000000", "5c01ff010000000000000000000000000000000000000000"),
@@ -422,17 +423,18 @@ def numbered():
 
 
 def as_in_the_manual():
-    """The rows of the manual's dialogue, over noise for the one pass that comes to its end there."""
+    """The rows of the manual's two dialogues: the first over noise for the one pass that comes to its end there."""
     with open(MANUAL, encoding="utf-8") as manual:
-        text = manual.read()
-    rows = re.findall(r"^\| `(c5[0-9a-f]+)` \| `(5c[0-9a-f]+)`(?: and `([0-9a-f]+)`)? \|", text, re.MULTILINE)
-    if len(rows) < 30:
-        raise Wrong(f"the manual shows {len(rows)} commands")
-    in_room("once", bytes(k % 256 for k in range(PASS)))
-    with Talk(serve_words(noise="once")) as talk:
-        for command, header, payload in rows:
-            talk.ask(command, header + payload)
-        talk.ends(0, b"")
+        first, keys = manual.read().split("\n## A dialogue with keys\n")
+    for text, samples, least in ((first, PASS, 30), (keys, PASS + RESEED, 50)):
+        rows = re.findall(r"^\| `(c5[0-9a-f]+)` \| `(5c[0-9a-f]+)`(?: and `([0-9a-f]+)`)? \|", text, re.MULTILINE)
+        if len(rows) < least:
+            raise Wrong(f"the manual shows {len(rows)} commands")
+        in_room("once", bytes(k % 256 for k in range(samples)))
+        with Talk(serve_words(noise="once")) as talk:
+            for command, header, payload in rows:
+                talk.ask(command, header + payload)
+            talk.ends(0, b"")
 
 
 def longest_body():

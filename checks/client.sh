@@ -1,5 +1,6 @@
 #!/usr/bin/env bash
-# A client that talks to the built program over real pipes, which no proof speaks of: see client.py.
+# Clients that talk to the built program over real pipes, which no proof speaks of: see client.py, and client_keys.py for the
+# services that seal, wrap, derive, draw and zeroise trees.
 # `./warlinden` takes the program that `rt ci` left, or builds it.
 set -u
 cd "$(dirname "$0")/.." || exit 1
@@ -11,4 +12,10 @@ fi
     echo "client: FAILED: there is no program that writes the digest of a file with status 0, but $?"
     exit 1
 }
-python3 checks/client.py crates/module_program/out/module_program ./warlinden
+program=crates/module_program/out/module_program
+python3 -B checks/client.py "$program" ./warlinden || exit 1
+if ! python3 -c 'import cryptography' 2>/dev/null; then
+    echo 'client: the services with keys are skipped, since Python has no cryptography here'
+    exit 0
+fi
+python3 -B checks/client_keys.py "$program"

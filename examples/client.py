@@ -33,6 +33,9 @@ LARGEST_BODY = 65_600
 LARGEST_PAYLOAD = 65_664
 HEADER_LENGTHS = {1: 24, 2: 28}
 IMAGE_KEY = bytes(range(32))
+MOST_USES = 2**32 - 1
+# Of the IV that Seal draws, and of a tag where none is asked for.
+IV_LENGTH, TAG_LENGTH = 12, 16
 
 
 class Service(enum.IntEnum):
@@ -50,9 +53,21 @@ class Service(enum.IntEnum):
     Zeroise = 0x0C
     ZeroiseAll = 0x0D
     ShowSlot = 0x0E
+    ZeroiseTree = 0x0F
     Hash = 0x10
     Mac = 0x11
     MacVerify = 0x12
+    Seal = 0x13
+    SealIv = 0x14
+    Open = 0x15
+    Wrap = 0x16
+    Unwrap = 0x17
+    WrapPad = 0x18
+    UnwrapPad = 0x19
+    Derive = 0x1A
+    Random = 0x1B
+    Generate = 0x1C
+    Reseed = 0x1D
 
 
 class State(enum.IntEnum):
@@ -82,6 +97,7 @@ class Status(enum.IntEnum):
     BadLength = 12
     CheckFailed = 13
     AuthFailed = 14
+    UnwrapFailed = 15
     OutOfOrder = 16
 
 
@@ -261,8 +277,39 @@ def read_reply(stream):
 
 
 def entry_header(slot, kind, domain, exportable, uses, length):
-    """The body of EntryBegin."""
+    """The body of EntryBegin and of Generate."""
     return bytes([slot, kind, domain, exportable]) + uses.to_bytes(4, "big") + bytes([length])
+
+
+def seal_body(slot, text, aad, tag_length):
+    return bytes([slot, tag_length]) + len(aad).to_bytes(4, "big") + aad + text
+
+
+def seal_iv_body(slot, iv, text, aad, tag_length):
+    return bytes([slot, tag_length, len(iv)]) + len(aad).to_bytes(4, "big") + iv + aad + text
+
+
+def open_body(slot, iv, ciphertext, tag, aad):
+    return seal_iv_body(slot, iv, ciphertext + tag, aad, len(tag))
+
+
+def parts_of_sealed(payload, tag_length=TAG_LENGTH):
+    """IV, ciphertext and tag of what Seal gave."""
+    end = len(payload) - tag_length
+    return payload[:IV_LENGTH], payload[IV_LENGTH:end], payload[end:]
+
+
+def target(slot, kind, exportable, uses):
+    """What Unwrap, UnwrapPad and Derive are told of the slot that they fill."""
+    return bytes([slot, kind, exportable]) + uses.to_bytes(4, "big")
+
+
+def unwrap_body(wrapping, slot, kind, wrapped, exportable, uses):
+    return bytes([wrapping]) + target(slot, kind, exportable, uses) + wrapped
+
+
+def derive_body(source, slot, kind, length, label, context, exportable, uses):
+    return bytes([source]) + target(slot, kind, exportable, uses) + bytes([length, len(label)]) + label + context
 
 
 def image_digest(image):
@@ -333,7 +380,7 @@ class Client:
     def reset(self):
         return self.ask(Service.Reset)
 
-    def enter(self, slot, kind, parameter, domain=Domain.Approved, exportable=False, uses=2**32 - 1):
+    def enter(self, slot, kind, parameter, domain=Domain.Approved, exportable=False, uses=MOST_USES):
         """Enters a key, and answers the first refusal or the reply to EntryCommit. A refused piece ends the entry."""
         header = entry_header(slot, kind, domain, exportable, uses, len(parameter))
         begun = self.ask(Service.EntryBegin, header)
@@ -347,6 +394,9 @@ class Client:
 
     def zeroise(self, slot):
         return self.ask(Service.Zeroise, bytes([slot]))
+
+    def zeroise_tree(self, slot):
+        return self.ask(Service.ZeroiseTree, bytes([slot]))
 
     def zeroise_all(self):
         return self.ask(Service.ZeroiseAll)
@@ -362,6 +412,41 @@ class Client:
 
     def mac_verify(self, slot, algorithm, mac, text):
         return self.ask(Service.MacVerify, bytes([slot, algorithm, len(mac)]) + mac + text)
+
+    def seal(self, slot, text, aad=b"", tag_length=TAG_LENGTH):
+        """The payload is IV, ciphertext and tag: see `parts_of_sealed`."""
+        return self.ask(Service.Seal, seal_body(slot, text, aad, tag_length))
+
+    def seal_iv(self, slot, iv, text, aad=b"", tag_length=TAG_LENGTH):
+        """For protocols that say the IV: none may come twice under one key."""
+        return self.ask(Service.SealIv, seal_iv_body(slot, iv, text, aad, tag_length))
+
+    def open(self, slot, iv, ciphertext, tag, aad=b""):
+        return self.ask(Service.Open, open_body(slot, iv, ciphertext, tag, aad))
+
+    def wrap(self, wrapping, slot):
+        return self.ask(Service.Wrap, bytes([wrapping, slot]))
+
+    def unwrap(self, wrapping, slot, kind, wrapped, exportable=False, uses=MOST_USES):
+        return self.ask(Service.Unwrap, unwrap_body(wrapping, slot, kind, wrapped, exportable, uses))
+
+    def wrap_pad(self, wrapping, slot):
+        return self.ask(Service.WrapPad, bytes([wrapping, slot]))
+
+    def unwrap_pad(self, wrapping, slot, kind, wrapped, exportable=False, uses=MOST_USES):
+        return self.ask(Service.UnwrapPad, unwrap_body(wrapping, slot, kind, wrapped, exportable, uses))
+
+    def derive(self, source, slot, kind, length, label=b"", context=b"", exportable=False, uses=MOST_USES):
+        return self.ask(Service.Derive, derive_body(source, slot, kind, length, label, context, exportable, uses))
+
+    def random(self, length, additional=b""):
+        return self.ask(Service.Random, length.to_bytes(4, "big") + additional)
+
+    def generate(self, slot, kind, length, domain=Domain.Approved, exportable=False, uses=MOST_USES):
+        return self.ask(Service.Generate, entry_header(slot, kind, domain, exportable, uses, length))
+
+    def reseed(self, additional=b""):
+        return self.ask(Service.Reseed, additional)
 
 
 class Module(Client):
@@ -414,7 +499,8 @@ class SocketModule(Client):
         self.end()
 
 
-# The dialogue of the demo: what is done, the service and the body, and of an expected refusal its status and why.
+# The dialogues of the demo: what is done, the service and the body, and of an expected refusal its status and reason. A body that
+# needs what a service gave before is a function of the payloads by their services.
 HEADER = entry_header(3, Kind.MacKey, Domain.Other, False, 100, 4)
 QUESTION = b"what do ya want for nothing?"
 JEFE_MAC = bytes.fromhex("5bdcc146bf60754e")
@@ -444,6 +530,45 @@ NUMBERED = [
     ("the same number again", Service.ShowStatus, b"", Status.OutOfOrder, "it was taken already"),
 ]
 LAST = ("all slots are emptied", Service.Reset, b"")
+TEXT, AAD = b"attack at dawn", b"to: all"
+
+
+def opening(slot, sealed, turned=0):
+    """Opens what Seal gave, with so many of the last tag's bits turned."""
+    iv, ciphertext, tag = parts_of_sealed(sealed)
+    return open_body(slot, iv, ciphertext, tag[:-1] + bytes([tag[-1] ^ turned]), AAD)
+
+
+# A run of its own, in which keys are made, used, and zeroised with all that came of them.
+KEYS = [
+    ("power on; tests are never due again by themselves", Service.PowerOn, b"\0\0\0\0"),
+    ("the self-tests, please", Service.RequestTests, b""),
+    ("first of three steps: HMAC-SHA-256", Service.TestStep, b""),
+    ("second: the image", Service.TestStep, b""),
+    ("third: the generator, and its seed", Service.TestStep, b""),
+    ("the officer's role", Service.SelectRole, b"\x01"),
+    ("a wrapping key of 32 random bytes in slot 0", Service.Generate, entry_header(0, Kind.WrappingKey, Domain.Approved, False, 9, 32)),
+    ("an AES key likewise in slot 1, for export", Service.Generate, entry_header(1, Kind.AesKey, Domain.Approved, True, 9, 32)),
+    ("the key of slot 1 leaves, wrapped under slot 0", Service.Wrap, b"\0\1"),
+    ("and comes back into slot 2", Service.Unwrap, lambda given: unwrap_body(0, 2, Kind.AesKey, given[Service.Wrap], False, 9)),
+    ("slot 2 is not for export", Service.Wrap, b"\0\2", Status.NotExportable, "what was unwrapped without the flag stays here"),
+    ("a derivation key in slot 3", Service.Generate, entry_header(3, Kind.DerivationKey, Domain.Approved, False, 9, 32)),
+    ("a MAC key in slot 4, derived from slot 3", Service.Derive, derive_body(3, 4, Kind.MacKey, 32, b"demo", b"", False, 9)),
+    ("16 random bytes", Service.Random, b"\0\0\0\x10"),
+    ("fresh noise for the generator, 256 bytes", Service.Reseed, b""),
+    ("the user's role", Service.SelectRole, b"\x02"),
+    ("a text, sealed under slot 1", Service.Seal, seal_body(1, TEXT, AAD, TAG_LENGTH)),
+    ("opened under slot 2, which has the same key", Service.Open, lambda given: opening(2, given[Service.Seal])),
+    ("the same with one bit of the tag turned", Service.Open, lambda given: opening(2, given[Service.Seal], 1), Status.AuthFailed,
+     "no byte of the text is given"),
+    ("eight bytes of HMAC-SHA-256 under the derived key", Service.Mac, b"\4\1\x08" + TEXT),
+    ("the officer's role", Service.SelectRole, b"\x01"),
+    ("slot 0 and all that was unwrapped under it", Service.ZeroiseTree, b"\0"),
+    ("slot 2, which came of slot 0", Service.ShowSlot, b"\2"),
+    ("slot 1, which didn't", Service.ShowSlot, b"\1"),
+    ("slot 3 and all that was derived from it", Service.ZeroiseTree, b"\3"),
+    ("slot 4, which came of slot 3", Service.ShowSlot, b"\4"),
+]
 # The same module over an image of which a byte was changed.
 CHANGED = [
     ("power on", Service.PowerOn, b"\0\0\0\0"),
@@ -455,14 +580,29 @@ CHANGED = [
 ]
 
 
-def frames_of(lines, sequence=None):
-    """Lines of a dialogue, each with its frame."""
-    return [(line, command_frame(*line[1:3], sequence=sequence)) for line in lines]
+def numbered_as(lines, sequence=None):
+    """Lines of a dialogue, each with the number of its command."""
+    return [(line, sequence) for line in lines]
 
 
-def dialogue_frames(with_numbers):
-    """The demo's lines, each with its frame."""
-    return frames_of(DIALOGUE) + (frames_of(NUMBERED, 1) if with_numbers else []) + frames_of([LAST])
+def first_dialogue(with_numbers):
+    return numbered_as(DIALOGUE) + (numbered_as(NUMBERED, 1) if with_numbers else []) + numbered_as([LAST])
+
+
+def frame_of(line, sequence, given):
+    service, body = line[1:3]
+    return command_frame(service, body(given) if callable(body) else body, sequence)
+
+
+def known_frames(lines, given):
+    """The frames of the lines up to the first that needs what wasn't given yet."""
+    frames = []
+    for line, sequence in lines:
+        try:
+            frames.append(frame_of(line, sequence, given))
+        except KeyError:
+            break
+    return frames
 
 
 def show_exchange(frame, reply, what=""):
@@ -471,40 +611,61 @@ def show_exchange(frame, reply, what=""):
     print(f"    reply   {reply.frame[:len(reply.frame) - len(reply.payload)].hex()} {reply.payload.hex()}".rstrip())
 
 
-def show_line(line, frame, reply):
-    """Shows a line of the dialogue, and says whether its reply is the one that it should be."""
-    what, service, _, wanted, why = (line + (Status.Ok, ""))[:5]
+def show_line(line, frame, reply, given):
+    """Shows a line of the dialogue and keeps its payload, and says whether its reply is the one that it should be."""
+    what, service, _, wanted, reason = (line + (Status.Ok, ""))[:5]
     show_exchange(frame, reply, what)
     if (reply.service, reply.status) != (service, wanted):
         print(f"    {reply.in_words()}. THIS IS NOT WHAT WAS EXPECTED: {wanted.name}")
         return False
-    print(f"    {reply.in_words()}" + (f". A refusal, as expected: {why}" if why else ""))
+    if service == Service.Open and reply.payload not in (b"", TEXT):
+        print(f"    THIS IS NOT THE TEXT: {reply.payload!r}")
+        return False
+    if reply.payload:
+        given[service] = reply.payload
+    opened = f": {reply.payload.decode('ascii')}" if service == Service.Open and reply.payload else ""
+    print(f"    {reply.in_words()}{opened}" + (f". A refusal, as expected: {reason}" if reason else ""))
     return True
 
 
-def play(words, frames):
+def play(words, lines):
     """Each command once the reply to the one before it is there."""
+    given = {}
     with Module(words) as module:
-        for line, frame in frames:
-            if not show_line(line, frame, module.ask_frame(frame)):
+        for line, sequence in lines:
+            frame = frame_of(line, sequence, given)
+            if not show_line(line, frame, module.ask_frame(frame), given):
                 return 1
         status = module.end()
     print(f"The input ends: {exit_in_words(status)}")
     return status
 
 
-def play_at_once(words, frames):
-    """All commands in one piece, for a build that reads its input whole. Its messages are dropped."""
+def run_at_once(words, frames):
+    """The replies to commands in one piece, and the exit status. The program's messages are dropped."""
     process = subprocess.Popen(words, stdin=subprocess.PIPE, stdout=subprocess.PIPE, stderr=subprocess.DEVNULL)
-    process.stdin.write(b"".join(frame for _, frame in frames))
+    process.stdin.write(b"".join(frames))
     process.stdin.close()
-    for line, frame in frames:
-        reply = read_reply(process.stdout)
-        if reply is None:
-            raise Ended(f"the replies ended, with status {process.wait()}")
-        if not show_line(line, frame, reply):
-            return 1
-    return process.wait()
+    replies = [read_reply(process.stdout) for _ in frames]
+    status = process.wait()
+    if None in replies:
+        raise Ended(f"the replies ended, with status {status}")
+    return replies, status
+
+
+def play_at_once(words, lines):
+    """For a build that reads its input whole: where a command needs an earlier reply, the run is made anew over the same noise."""
+    given, shown, status = {}, 0, 0
+    while shown < len(lines):
+        frames = known_frames(lines, given)
+        replies, status = run_at_once(words, frames)
+        for (line, _), frame, reply in list(zip(lines, frames, replies))[shown:]:
+            if not show_line(line, frame, reply, given):
+                return 1
+        if len(frames) == shown:
+            raise Ended("a command needs what no reply gave")
+        shown = len(frames)
+    return status
 
 
 def over_files(program, word, names, room, at_once):
@@ -522,13 +683,13 @@ def write_file(room, name, content):
 
 
 def make_files(program, room, at_once):
-    """Makes an image, its digest by the program itself, and noise for one pass of the tests. Says whether the digest is right."""
+    """Makes an image, its digest by the program itself, and noise for a pass of the tests and a reseed. Says whether the digest is right."""
     image = b"abc"
     write_file(room, "image", image)
-    asked = over_files(program, "digest", ["image"], room, at_once)
-    line = subprocess.run(asked, stdin=subprocess.DEVNULL, stdout=subprocess.PIPE, stderr=subprocess.DEVNULL).stdout
+    digesting = over_files(program, "digest", ["image"], room, at_once)
+    line = subprocess.run(digesting, stdin=subprocess.DEVNULL, stdout=subprocess.PIPE, stderr=subprocess.DEVNULL).stdout
     write_file(room, "digest", line)
-    write_file(room, "noise", os.urandom(1408))
+    write_file(room, "noise", os.urandom(1408 + 256))
     print(f"The image has {len(image)} bytes, and the digest {line.decode('ascii', 'replace').strip()}")
     if line != image_digest(image).encode() + b"\n":
         print(f"    THIS IS NOT WHAT WAS EXPECTED: {image_digest(image)}")
@@ -542,12 +703,16 @@ def demo(program, with_numbers, at_once):
         if not make_files(program, room, at_once):
             return 1
         words = over_files(program, "serve", ["image", "digest", "noise"], room, at_once)
-        status = how(words, dialogue_frames(with_numbers))
+        status = how(words, first_dialogue(with_numbers))
+        if status != 0:
+            return status
+        print("\nThe same module once more: keys that are made, used and zeroised")
+        status = how(words, numbered_as(KEYS))
         if status != 0:
             return status
         write_file(room, "image", b"abd")
-        print("\nThe same module once more, where a byte of the image was changed")
-        return how(words, frames_of(CHANGED))
+        print("\nAnd once more, where a byte of the image was changed")
+        return how(words, numbered_as(CHANGED))
 
 
 def service_and_body(words):

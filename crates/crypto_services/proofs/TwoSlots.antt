@@ -16,7 +16,7 @@ use Rattle.ssp_slots.specs.Slots.{Contents, empty_slot, one_use_less, parameter,
 use Rattle.service_table.specs.declared.status.Status.{Status}
 use Rattle.crypto_services.specs.declared.outcome.Outcome.{Outcome}
 use Rattle.crypto_services.specs.declared.parts.Parts.{Parts}
-use Rattle.crypto_services.specs.AtSlots.{SlotResult, SlotsResult, slot_at, with_slot_at, on_slot, on_no_slot, on_two_slots, source, unless_fault, domain_at, refusal, fault_status}
+use Rattle.crypto_services.specs.AtSlots.{SlotResult, SlotsResult, slot_at, with_slot_at, on_slot, on_no_slot, on_two_slots, source, domain_at, refusal, fault_status}
 use Rattle.crypto_services.specs.Indicator.{ServiceUse, indicator}
 use Rattle.crypto_services.specs.Serves.{Serves, ServesInPart}
 use Rattle.crypto_services.proofs.Sourcing.{laid_back_at}

@@ -1,5 +1,5 @@
 -- Parameters that are wrapped and unwrapped: their lengths, and the keys.
-use Rattle.std.proofs.Common.{◌≡◌, ◌≤◌, ◌%◌, ℕ, Bool, true, false, List, length, take, Option, Some, None, IsTrue, refl, sym, ap, subst, ◌∙◌, arith}
+use Rattle.std.proofs.Common.{◌≡◌, ◌≤◌, ℕ, Bool, true, false, List, length, take, Option, Some, None, IsTrue, sym, ap, subst, ◌∙◌, arith}
 use Rattle.std.specs.Prelude.{IfSome}
 use Rattle.std.specs.Option.{option_map_or}
 use Rattle.std.proofs.lemmas.Bool.{false≢true}
@@ -17,7 +17,7 @@ use Rattle.engine_core.specs.Inputs.{IsAesKey, IsWrappable, IsUnwrappable}
 use Rattle.engine_core.specs.Results.{IsUnwrappedLength, wrapped_length}
 use Rattle.ssp_slots.specs.declared.slot.Slot.{Slot}
 use Rattle.ssp_slots.specs.PreparedKeys.{is_prepared_kind, has_prepared_key}
-use Rattle.ssp_slots.specs.Slots.{IsWellFormed, empty_slot, parameter}
+use Rattle.ssp_slots.specs.Slots.{IsWellFormed, parameter}
 
 -- a parameter has from 1 to 64 bytes
 length_fits-within : (kind : Kind) (domain : Domain) (n : ℕ) → IsTrue (length_fits kind domain n) → (1 ≤ n) × (n ≤ 64)

@@ -6,7 +6,7 @@ use Rattle.bits_core.specs.declared.parameter.Kind.{Kind}
 use Rattle.bits_core.specs.declared.parameter.Kind.TheVariants as kinds
 use Rattle.bits_core.specs.Parameters.{length_fits}
 use Rattle.engine_core.specs.Calls.{Calls}
-use Rattle.engine_core.specs.Results.{Wrapped, Unwrapped}
+use Rattle.engine_core.specs.Results.{Wrapped}
 use Rattle.service_table.specs.declared.status.Status.TheVariants as status
 use Rattle.service_table.specs.Services.{is_approved, wrapping_service, unwrapping_service}
 use Rattle.ssp_slots.specs.declared.slot.Slot.{Slot}

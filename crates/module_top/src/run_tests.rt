@@ -78,7 +78,7 @@ fn answers_the_worked_streams(rt: HostRuntime) -> Result<(), Fail> {
         0x5c, 0x01, 0x04, 0, 0, 0, 0, 0, 0, 0, 0, 0, 0, 0, 0, 0, 0, 0, 0, 0, 0, 0, 0, 0,
     ];
     let no_service = [
-        0x5c, 0x01, 0x0f, 1, 0, 0, 0, 0, 0, 0, 0, 0, 0, 0, 0, 0, 0, 0, 0, 0, 0, 0, 0, 0,
+        0x5c, 0x01, 0x1e, 1, 0, 0, 0, 0, 0, 0, 0, 0, 0, 0, 0, 0, 0, 0, 0, 0, 0, 0, 0, 0,
     ];
     let echoed = [
         0x5c, 0x01, 0x7e, 1, 0, 0, 0, 0, 0, 0, 0, 0, 0, 0, 0, 0, 0, 0, 0, 0, 0, 0, 0, 0,
@@ -89,7 +89,7 @@ fn answers_the_worked_streams(rt: HostRuntime) -> Result<(), Fail> {
     let rows: [(&[u8], &[u8], u8); 10] = [
         (&STREAM, &REPLIES, 0),
         (&[0xc5, 0x01, 0x04, 0, 0, 0, 0, 0], &off, 0),
-        (&[0xc5, 0x01, 0x0f, 0, 0, 0, 0, 0], &no_service, 0),
+        (&[0xc5, 0x01, 0x1e, 0, 0, 0, 0, 0], &no_service, 0),
         (&[0xc5, 0x01, 0x7e, 0, 0, 0, 0, 0], &echoed, 0),
         (&[0xc5, 0x01, 0x07, 0, 0, 0, 0, 0], &not_now, 0),
         (&[], &[], 0),

@@ -135,16 +135,19 @@ refused_represents {V} calls m samples events what due reason rules allowed =
     let after = served calls s (ready_tested calls (with_tested s.shared t) t.judgement.refused events what) what in IsServiceResult after n reason no_block [] × (after.left ≡ events)) in
     tested_by calls m.engine (use_counted m.public) m.tests_passed Is
     (λ more engine includes is. some_is_not_none reason (sym is))
-    (λ test engine is. (record {
-      represents = record {
-        same = rw (failed_is_not_over (use_counted m.public) (failure.KnownAnswer (number_of test))) refl;
-        well_formed = failed_use_is_kept s (failure.KnownAnswer (number_of test)) m.tests_passed engine m.generator samples (is_failure test) rules allowed;
-        counts = λ other. absurd (other refl);
-      };
-      same_status = cc;
-      same_block = refl;
-      same_payload = refl;
-    }, refl)) due
+    (λ test engine is. (
+      record {
+        represents = record {
+          same = rw (failed_is_not_over (use_counted m.public) (failure.KnownAnswer (number_of test))) refl;
+          well_formed = failed_use_is_kept s (failure.KnownAnswer (number_of test)) m.tests_passed engine m.generator samples (is_failure test) rules allowed;
+          counts = λ other. absurd (other refl);
+        };
+        same_status = cc;
+        same_block = refl;
+        same_payload = refl;
+      },
+      refl,
+    )) due
 
 -- and one that is performed
 pub performed_represents : {V : Type 0} (calls : Calls V) (m : ModuleView V) (samples : List ℕ) (events left : List Sample) (what : CryptographicRequest) (due : Option Test)

@@ -21,6 +21,10 @@ pub mod Statuses
 pub mod Replying
 pub mod DataInRoles
 pub mod Zeroising
+pub mod Steps
+pub mod ZeroisedTrees
+pub mod Refusals
+pub mod SpentUses
 pub mod Answering
 pub mod LawfulCodes
 pub mod LawfulNoise
@@ -28,3 +32,9 @@ pub mod LawfulServices
 pub mod LawfulRequests
 pub mod Lawfulness
 pub mod Numbering
+pub mod Silence
+pub mod DrawingMeanings
+pub mod SealingMeanings
+pub mod FillingMeanings
+pub mod Meanings
+pub mod Completed

@@ -82,24 +82,7 @@ ready_by {V} calls shared events what P keeps healthy seeded most ready untested
     by_failure more engine includes d None is answers fresh = ready more d.engine d.generator d.samples d.bytes d.left includes (answers.healthy is) (answers.least is) (answers.requests is) (fresh is)
     by_failure more engine includes d (Some fault) is answers fresh = without_noise fault more d.engine d.generator d.samples d.left (rw is at answers.fails)
 
--- what holds in each of the three cases holds before the slots, also of an engine of which nothing is known
-pub ready_cases : {V : Type 0} (calls : Calls V) (shared : Shared V) (events : List Sample) (what : CryptographicRequest) (P : Ready V → Type 0)
-    → ((more : ℕ) (engine : V) (generator : Drbg) (samples bytes : List ℕ) (left : List Sample) → P (is_ready shared more engine generator samples bytes left what))
-    → ((test : Test) (engine : V) → P (is_untested shared test engine events))
-    → ((fault : Failure) (more : ℕ) (engine : V) (generator : Drbg) (samples : List ℕ) (left : List Sample) → P (is_without_noise shared fault more engine generator samples left))
-    → P (before_slots calls shared events what)
-ready_cases {V} calls shared events what P ready untested without_noise =
-    let Holds : Tested V → Type 0 = λ t. P (ready_tested calls (with_tested shared t) t.judgement.refused events what) in
-    tested_by calls shared.engine (use_counted shared.public) shared.tests_passed Holds
-    (λ more engine includes. let d = drawn_for calls engine shared.generator shared.samples events what in by_failure more engine d d.failure)
-    (λ test engine. untested test engine) (due_at_first_use shared.tests_passed (test_for what))
-  where
-    by_failure : (more : ℕ) (engine : V) (d : Drawn V) (fault : Option Failure)
-        → (let counted : Shared V = record shared { public = use_counted shared.public; tests_passed = more; engine = engine } in P (ready_drawn (with_drawn counted d) d fault what))
-    by_failure more engine d None = ready more d.engine d.generator d.samples d.bytes d.left
-    by_failure more engine d (Some fault) = without_noise fault more d.engine d.generator d.samples d.left
-
--- and also where it is asked which test was due, and which draw failed
+-- so it does of an engine of which nothing is known, where it is told which test was due, and that the draw failed
 pub ready_known : {V : Type 0} (calls : Calls V) (shared : Shared V) (events : List Sample) (what : CryptographicRequest) (P : Ready V → Type 0)
     → ((more : ℕ) (engine : V) (generator : Drbg) (samples bytes : List ℕ) (left : List Sample) → P (is_ready shared more engine generator samples bytes left what))
     → ((test : Test) (engine : V) → due_at_first_use shared.tests_passed (test_for what) ≡ Some test → P (is_untested shared test engine events))
@@ -125,3 +108,13 @@ ready_known {V} calls shared events what P ready untested without_noise = by_due
         → (let t : Tested V = tested calls shared.engine (use_counted shared.public) shared.tests_passed due in P (ready_tested calls (with_tested shared t) t.judgement.refused events what))
     by_due None is = by_failure shared.tests_passed shared.engine (draw shared.engine).failure refl
     by_due (Some test) is = by_right test is (engine_after calls shared.engine test) (answers_right calls shared.engine test)
+
+-- and where that isn't told
+pub ready_cases : {V : Type 0} (calls : Calls V) (shared : Shared V) (events : List Sample) (what : CryptographicRequest) (P : Ready V → Type 0)
+    → ((more : ℕ) (engine : V) (generator : Drbg) (samples bytes : List ℕ) (left : List Sample) → P (is_ready shared more engine generator samples bytes left what))
+    → ((test : Test) (engine : V) → P (is_untested shared test engine events))
+    → ((fault : Failure) (more : ℕ) (engine : V) (generator : Drbg) (samples : List ℕ) (left : List Sample) → P (is_without_noise shared fault more engine generator samples left))
+    → P (before_slots calls shared events what)
+ready_cases calls shared events what P ready untested without_noise =
+    ready_known calls shared events what P ready (λ test engine due. untested test engine)
+    (λ fault more engine generator samples left before failed. without_noise fault more engine generator samples left)

@@ -81,6 +81,14 @@ perform_left calls s events request.ZeroiseAll other managed = refl
 perform_left calls s events (request.ShowSlot slot) other managed = refl
 perform_left calls s events (request.Cryptographic what) other managed = absurd (is_no_management what managed)
 
+-- What holds of each status that a cryptographic service may answer at the slots.
+pub record OfSlots (P : Status → Type 0) : Type 0 where
+  pub ok : P status.Ok
+  pub bad_length : P status.BadLength
+  pub auth_failed : P status.AuthFailed
+  pub unwrap_failed : P status.UnwrapFailed
+  pub by_slot : (why : SlotFault) → P (fault_status why)
+
 -- What holds of each status that a service may answer.
 pub record OfServices (P : Status → Type 0) : Type 0 where
   pub ok : P status.Ok
@@ -91,12 +99,15 @@ pub record OfServices (P : Status → Type 0) : Type 0 where
   pub unwrap_failed : P status.UnwrapFailed
   pub by_slot : (why : SlotFault) → P (fault_status why)
 
-source_status : {V : Type 0} (P : Status → Type 0) → OfServices P → (engine : V) (slot : Slot) (fault : Option SlotFault) (after : List ℕ → V) (answer : List ℕ → Answer)
+at_slots_too : (P : Status → Type 0) → OfServices P → OfSlots P
+at_slots_too P of = record { ok = of.ok; bad_length = of.bad_length; auth_failed = of.auth_failed; unwrap_failed = of.unwrap_failed; by_slot = of.by_slot }
+
+source_status : {V : Type 0} (P : Status → Type 0) → OfSlots P → (engine : V) (slot : Slot) (fault : Option SlotFault) (after : List ℕ → V) (answer : List ℕ → Answer)
     → ((key : List ℕ) → P (answer key).status) → P (on_source engine (source_by slot fault) after answer).answer.status
 source_status P of engine slot None after answer right = right _
 source_status P of engine slot (Some why) after answer right = of.by_slot why
 
-verified_status : (P : Status → Type 0) → OfServices P → (right : Bool) → P (if right then success [] else refusal status.AuthFailed).status
+verified_status : (P : Status → Type 0) → OfSlots P → (right : Bool) → P (if right then success [] else refusal status.AuthFailed).status
 verified_status P of true = of.ok
 verified_status P of false = of.auth_failed
 
@@ -105,25 +116,25 @@ unless_status : {V : Type 0} (P : Status → Type 0) (engine : V) (slot : Slot) 
 unless_status P engine slot true why served refusal' next = refusal'
 unless_status P engine slot false why served refusal' next = next
 
-fault_or_status : {V : Type 0} (P : Status → Type 0) → OfServices P → (engine : V) (slot : Slot) (fault : Option SlotFault) (served : SlotResult V) → P served.answer.status
+fault_or_status : {V : Type 0} (P : Status → Type 0) → OfSlots P → (engine : V) (slot : Slot) (fault : Option SlotFault) (served : SlotResult V) → P served.answer.status
     → P (unless_fault engine slot fault served).answer.status
 fault_or_status P of engine slot None served next = next
 fault_or_status P of engine slot (Some why) served next = of.by_slot why
 
-opened_status : (P : Status → Type 0) → OfServices P → (result : Opened) → P (opened result).status
+opened_status : (P : Status → Type 0) → OfSlots P → (result : Opened) → P (opened result).status
 opened_status P of result = by (λ right. P (if right then success result.text else refusal status.AuthFailed).status) result.authentic of.ok of.auth_failed
   where
     by : (Q : Bool → Type 0) → (right : Bool) → Q true → Q false → Q right
     by Q true yes' no' = yes'
     by Q false yes' no' = no'
 
-second_status : {V : Type 0} (P : Status → Type 0) → OfServices P → (engine : V) (slots : List Slot) (second : ℕ) (slot : Slot) (fault : Option SlotFault) (service : List ℕ → Domain → Slot → SlotResult V)
+second_status : {V : Type 0} (P : Status → Type 0) → OfSlots P → (engine : V) (slots : List Slot) (second : ℕ) (slot : Slot) (fault : Option SlotFault) (service : List ℕ → Domain → Slot → SlotResult V)
     → ((key : List ℕ) (domain : Domain) (slot : Slot) → P (service key domain slot).answer.status)
     → (let sourced = source_by slot fault in P (second_under engine slots second sourced sourced.refused service).answer.status)
 second_status P of engine slots second slot None service right = right _ _ _
 second_status P of engine slots second slot (Some reason) service right = of.by_slot reason
 
-wrap_status : {V : Type 0} (P : Status → Type 0) → OfServices P → (calls : Calls V) (engine : V) (pad : Bool) (key : List ℕ) (domain : Domain) (slot : Slot) → P (wrap_at calls engine pad key domain slot).answer.status
+wrap_status : {V : Type 0} (P : Status → Type 0) → OfSlots P → (calls : Calls V) (engine : V) (pad : Bool) (key : List ℕ) (domain : Domain) (slot : Slot) → P (wrap_at calls engine pad key domain slot).answer.status
 wrap_status {V} P of calls engine pad key domain slot = fault_or_status P of engine slot (export_fault slot.header domain) _ (by_length (is_wrappable pad slot.length))
   where
     by_length : (good : Bool) → (let wrapped : SlotResult V = record {
@@ -134,18 +145,18 @@ wrap_status {V} P of calls engine pad key domain slot = fault_or_status P of eng
     by_length true = of.ok
     by_length false = of.bad_length
 
-filled_status : {V : Type 0} (P : Status → Type 0) → OfServices P → (engine : V) (slot : Slot) (header : Header) (bytes : List ℕ) → P (filled_if_fits engine slot header bytes).answer.status
+filled_status : {V : Type 0} (P : Status → Type 0) → OfSlots P → (engine : V) (slot : Slot) (header : Header) (bytes : List ℕ) → P (filled_if_fits engine slot header bytes).answer.status
 filled_status P of engine slot header bytes = by_length (length_fits header.kind header.domain (length bytes))
   where
     by_length : (fits : Bool) → P (if fits then filled_at engine header bytes else refused_at engine slot status.BadLength).answer.status
     by_length true = of.ok
     by_length false = of.bad_length
 
-unwrapped_status : {V : Type 0} (P : Status → Type 0) → OfServices P → (engine : V) (slot : Slot) (header : Header) (buf : List ℕ) (size : Option ℕ) → P (filled_by_unwrapping engine slot header buf size).answer.status
+unwrapped_status : {V : Type 0} (P : Status → Type 0) → OfSlots P → (engine : V) (slot : Slot) (header : Header) (buf : List ℕ) (size : Option ℕ) → P (filled_by_unwrapping engine slot header buf size).answer.status
 unwrapped_status P of engine slot header buf None = of.unwrap_failed
 unwrapped_status P of engine slot header buf (Some size) = filled_status P of engine slot header (take size buf)
 
-service_status : {V : Type 0} (P : Status → Type 0) → OfServices P → (calls : Calls V) (engine : V) (drawn : List ℕ) (slots : List Slot) (what : CryptographicRequest)
+pub service_status : {V : Type 0} (P : Status → Type 0) → OfSlots P → (calls : Calls V) (engine : V) (drawn : List ℕ) (slots : List Slot) (what : CryptographicRequest)
     → P (service_at calls engine drawn slots what).answer.status
 service_status P of calls engine drawn slots (request.Hash alg text) = of.ok
 service_status P of calls engine drawn slots (request.Mac slot alg mac_length text) =
@@ -154,7 +165,6 @@ service_status P of calls engine drawn slots (request.Mac slot alg mac_length te
 service_status P of calls engine drawn slots (request.MacVerify slot alg tag text) =
     source_status P of engine (slot_at slots slot) (source_fault (slot_at slots slot).header kind.Mac (is_approved service.MacVerify (length tag)))
     (λ key. calls.mac_after engine alg key text) (λ key. verified tag (calls.mac engine alg key text)) (λ key. verified_status P of (is_leftmost tag (calls.mac engine alg key text)))
-
 service_status P of calls engine drawn slots (request.Seal slot tag_length aad text) =
     source_status P of engine (slot_at slots slot) (source_fault (slot_at slots slot).header kind.Aes (is_approved service.Seal 0)) _ _ (λ key. of.ok)
 service_status P of calls engine drawn slots (request.SealIv slot tag_length iv aad text) =
@@ -179,7 +189,7 @@ committed_status : {V : Type 0} (P : Status → Type 0) → OfServices P → (ca
 committed_status P of calls s None check = of.bad_length
 committed_status P of calls s (Some target) check =
     unless_status P _ _ (not (length (entered s.entry) == target.length)) status.BadLength _ of.bad_length
-    (fault_or_status P of _ _ (vacancy_fault (slot_at s.slots target.slot).header) _
+    (fault_or_status P (at_slots_too P of) _ _ (vacancy_fault (slot_at s.slots target.slot).header) _
     (unless_status P _ _ (not (bytes_eq check (check_value calls s.shared.engine target (entered s.entry)))) status.CheckFailed _ of.check_failed of.ok))
 
 test_status : {V : Type 0} (P : Status → Type 0) → OfServices P → P status.NoiseFault → (calls : Calls V) (s : MachineState V) (events : List Sample) → P (test_step calls s events).status
@@ -192,7 +202,7 @@ cryptographic_status : {V : Type 0} (P : Status → Type 0) → OfServices P →
     → P (cryptographic_step calls s events what).status
 cryptographic_status {V} P of noise calls s events what =
     let Answered : Ready V → Type 0 = λ ready. P (served calls s ready what).status in
-    ready_cases calls s.shared events what Answered (λ more engine generator samples drawn left. service_status P of calls engine drawn s.slots what) (λ test engine. of.test_failed)
+    ready_cases calls s.shared events what Answered (λ more engine generator samples drawn left. service_status P (at_slots_too P of) calls engine drawn s.slots what) (λ test engine. of.test_failed)
     (λ fault more engine generator samples left. noise)
 
 -- TestStep and cryptographic services alone may meet a fault of noise
@@ -236,7 +246,7 @@ pub no_noise_fault : {V : Type 0} (calls : Calls V) (s : MachineState V) (events
     → (perform calls s events what).status ≢ status.NoiseFault
 no_noise_fault calls s events what other managed = performed_status (λ why. why ≢ status.NoiseFault)
     (record { ok = λ e. cc; test_failed = λ e. cc; bad_length = λ e. cc; check_failed = λ e. cc; auth_failed = λ e. cc; unwrap_failed = λ e. cc; by_slot = fault_is_none })
-    calls s events what (λ takes. elim takes [ | inl is ↦ absurd (other is) | inr is ↦ cc ])
+    calls s events what (λ takes. elim takes [ inl is ↦ absurd (other is) | inr is ↦ cc ])
 
 requested_status : {V : Type 0} (P : Status → Type 0) → OfServices P → P status.NoiseFault → P status.BadBody → (calls : Calls V) (s : MachineState V) (events : List Sample) (read : Option RequestValue)
     → P (dispatch_request calls s events read).status

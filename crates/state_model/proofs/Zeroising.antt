@@ -1,40 +1,29 @@
 -- What zeroising leaves, and what refusals leave as it was.
-use Rattle.std.proofs.Common.{◌≡◌, ◌≢◌, ◌⊎◌, ℕ, ◌+◌, List, [], take, Bool, true, false, Option, Some, None, length, inl, inr, refl, sym, ap, subst, ◌∙◌, if◌then◌else◌}
-use Rattle.std.specs.Prelude.{◌==◌, not, nat_le, bytes_eq, slice_index_or, slice_set}
+use Rattle.std.proofs.Common.{◌≡◌, ◌≢◌, ◌⊎◌, ℕ, List, [], Bool, true, false, Option, Some, None, length, inl, inr, refl, sym, ap, subst, ◌∙◌, if◌then◌else◌}
+use Rattle.std.specs.Prelude.{◌==◌, slice_index_or, slice_set}
 use Rattle.std.proofs.lemmas.Bool.{cases_lt}
 use Rattle.std.proofs.lemmas.List.{get_or-replicate, get_or_past, get_or-set_same, get_or-set_other, set_past}
-use Rattle.bits_core.specs.declared.parameter.Kind.TheVariants as kind
 use Rattle.service_table.specs.declared.service.Service.{Service}
 use Rattle.service_table.specs.declared.service.Service.TheVariants as service
 use Rattle.service_table.specs.declared.status.Status.{Status}
 use Rattle.service_table.specs.declared.status.Status.TheVariants as status
 use Rattle.service_table.specs.Numbers.{service_numbered}
-use Rattle.service_table.specs.Services.{is_permitted, is_approved}
-use Rattle.ssp_slots.specs.declared.slot.Slot.{Slot}
+use Rattle.service_table.specs.Services.{is_permitted}
 use Rattle.ssp_slots.specs.declared.slot_fault.SlotFault.{SlotFault}
 use Rattle.ssp_slots.specs.declared.slot_fault.SlotFault.TheVariants as fault
-use Rattle.ssp_slots.specs.Refusals.{source_fault, vacancy_fault}
 use Rattle.ssp_slots.specs.Slots.{Contents, empty_slot, empty_vault, slot_in, row_in, zeroised_in, OthersStay}
 use Rattle.ssp_slots.proofs.WellFormedSlots.{empty_row}
 use Rattle.outside.specs.declared.traits.Sample.{Sample}
-use Rattle.module_frames.specs.PublicState.{no_block}
-use Rattle.module_frames.specs.PublicEffects.{sequence_taken, use_counted}
+use Rattle.module_frames.specs.PublicEffects.{sequence_taken}
 use Rattle.module_frames.specs.Requests.{RequestValue, CryptographicRequest, request_of}
 use Rattle.module_frames.specs.Requests as request
 use Rattle.engine_core.specs.Calls.{Calls}
-use Rattle.crypto_services.specs.AtSlots.{Answer, SlotResult, slot_at, with_slot_at, on_slot, on_source, source_by, unless_fault, fault_status, success, refusal}
-use Rattle.crypto_services.specs.Services.{verified, is_leftmost, mac_at, mac_verify_at}
-use Rattle.crypto_services.proofs.Sourcing.{laid_back_at}
-use Rattle.state_model.specs.declared.entry.Target.{Target}
-use Rattle.state_model.specs.Commit.{unless, commit_at, check_value, entered}
-use Rattle.state_model.specs.Entries.{with_piece, entry_length}
+use Rattle.crypto_services.specs.AtSlots.{fault_status}
 use Rattle.state_model.specs.MachineState.{MachineState, state_of, vault_of, no_slots}
-use Rattle.state_model.specs.Management.{Stepped, refused, done, committed, with_public, test_step}
+use Rattle.state_model.specs.Management.{Stepped, refused, with_public}
 use Rattle.state_model.specs.Step.{dispatch, dispatch_request, perform, request_at, number_taken}
 use Rattle.state_model.specs.Laws.{ZeroisingEmptiesAll, ZeroisingEmptiesOne, IsRefusedAtOnce, RefusalsChangeNothing}
 use Rattle.state_model.proofs.Sequences.{by_order}
-use Rattle.state_model.proofs.Testing.{tested_by}
-use Rattle.state_model.proofs.TestSteps.{test_step_by}
 use Rattle.state_model.proofs.Statuses.{OfServices, performed_status}
 
 -- slot and row with a number are empty

@@ -1,12 +1,17 @@
 -- How a cryptographic service is done, in three parts that their types keep apart: what comes before the slots, what is done at them,
 -- and what comes after. The first and the last see no slot and no entry.
-use Rattle.std.specs.Prelude.{ℕ, List, [], ◌∷◌, Option, Some, None, if◌then◌else◌}
+use Rattle.std.specs.Prelude.{ℕ, Bool, List, [], ◌∷◌, Option, Some, None, length, if◌then◌else◌}
+use Rattle.bits_core.specs.declared.parameter.Kind.{Kind}
+use Rattle.bits_core.specs.declared.parameter.Kind.TheVariants as kinds
 use Rattle.drbg_core.specs.declared.generator.Drbg.{Drbg}
 use Rattle.service_table.specs.declared.failure.Failure.{Failure}
 use Rattle.service_table.specs.declared.status.Status.{Status}
 use Rattle.service_table.specs.declared.status.Status.TheVariants as status
 use Rattle.outside.specs.declared.traits.Sample.{Sample}
+use Rattle.service_table.specs.Services.{is_approved}
 use Rattle.ssp_slots.specs.declared.slot.Slot.{Slot}
+use Rattle.ssp_slots.specs.declared.slot_fault.SlotFault.{SlotFault}
+use Rattle.ssp_slots.specs.Refusals.{source_fault}
 use Rattle.ssp_slots.specs.Ancestry.{linked}
 use Rattle.module_frames.specs.declared.public_state.PublicState.{PublicState}
 use Rattle.module_frames.specs.PublicState.{no_block}
@@ -25,7 +30,7 @@ use Rattle.crypto_services.specs.Drawing.{random_result, reseed_result, generate
 use Rattle.crypto_services.specs.Indicator.{ServiceUse}
 use Rattle.state_model.specs.MachineState.{Shared, MachineState}
 use Rattle.state_model.specs.Management.{Stepped, tests_forgotten, with_tested}
-use Rattle.state_model.specs.SelfTesting.{Tested, tested, test_for, due_at_first_use}
+use Rattle.state_model.specs.SelfTesting.{tested, test_for, due_at_first_use}
 
 -- what is there when the slots are looked at: all that no key reaches, the events left, the bytes that were drawn, and the reason
 -- where the command is refused already
@@ -163,6 +168,30 @@ slots_named (request.Derive source target kind export uses long label context) =
 slots_named (request.Random long additional) = []
 slots_named (request.Generate target header long) = target ∷ []
 slots_named (request.Reseed additional) = []
+
+-- the kind of key that a request uses, where it uses one
+abbrev pub key_kind : CryptographicRequest → Option Kind
+key_kind (request.Hash alg text) = None
+key_kind (request.Mac slot alg mac_length text) = Some kinds.Mac
+key_kind (request.MacVerify slot alg tag text) = Some kinds.Mac
+key_kind (request.Seal slot tag_length aad text) = Some kinds.Aes
+key_kind (request.SealIv slot tag_length iv aad text) = Some kinds.Aes
+key_kind (request.Open slot iv aad text tag) = Some kinds.Aes
+key_kind (request.Wrap pad kek second) = Some kinds.Kek
+key_kind (request.Unwrap pad kek target kind export uses wrapped) = Some kinds.Kek
+key_kind (request.Derive source target kind export uses long label context) = Some kinds.Kdf
+key_kind (request.Random long additional) = None
+key_kind (request.Generate target header long) = None
+key_kind (request.Reseed additional) = None
+
+-- the fault of a slot as a key of this kind, where one is used
+abbrev pub fault_as_key : Option Kind → Bool → Slot → Option SlotFault
+fault_as_key None approved slot = None
+fault_as_key (Some kind) approved slot = source_fault slot.header kind approved
+
+-- and as the key of a request
+abbrev pub key_fault : CryptographicRequest → Slot → Option SlotFault
+key_fault what slot = fault_as_key (key_kind what) (is_approved (cryptographic_service_for what) (mac_length_of what)) slot
 
 -- the use of a service that a request makes
 abbrev pub use_of : CryptographicRequest → ServiceUse

@@ -7,6 +7,8 @@ pub mod Cryptographic
 pub mod Performs
 pub mod Step
 pub mod Laws
+pub mod Meaning
+pub mod Completeness
 pub mod ModuleView
 pub mod Represents
 pub mod ModuleInvariant

@@ -9,6 +9,7 @@ mod module;
 mod self_testing;
 
 pub use laws::{
-    data_needs_a_role, numbers_are_in_order, refusals_change_nothing, steps_keep_the_rules, zeroising_empties,
+    answers_are_of_the_table, data_needs_a_role, numbers_are_in_order, refusals_change_nothing,
+    services_are_complete, services_mean_the_standards, steps_keep_the_rules, zeroising_empties,
 };
 pub use module::Module;

@@ -27,6 +27,7 @@ ghost use Rattle.state_model.specs.SelfTesting.{stepped_with};
 ghost use Rattle.state_model.specs.SlotBlock.{header_block, slot_block};
 ghost use Rattle.state_model.specs.Permission.{IsPermittedIn};
 ghost use Rattle.state_model.specs.Represents.{Represents, IsRepresented, IsServiceResult, Replies};
+ghost use Rattle.state_model.specs.Meaning.{AnswersByTheStandards, held_in};
 
 use crate::commit::commit;
 use crate::cryptographic::{note_link, perform};
@@ -496,6 +497,9 @@ impl<E: Engine> Module<E> {
         // That the noise failed is told only where its count of faults rose.
         ensures noise_failed { reply.new.status ≡ Status.NoiseFault → reply.new.code ≡ failure_code failures.NoiseFailed → FaultCounted (N.faults noise.old) (N.faults noise.new) }
         ensures represented { IsRepresented self.new }
+        // With a standard engine, what a cryptographic service gives or fills a slot with is the standard's value, with any noise.
+        ensures meaning { IsStandard E.calls → AnswersByTheStandards command.now (held_in self.old) (held_in self.new)
+            (record { status = reply.new.status; payload = reply.new.payload.bytes }) }
         // The public state before and after it keep, with the head of the reply, the rules of a lawful step, with any noise.
         ensures lawful { IsLawfulStep self.old.public command.now (head_of (frame_of reply.new)) self.new.public }
     {

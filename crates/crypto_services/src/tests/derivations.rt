@@ -1,5 +1,5 @@
 //! Derivation. The derived bytes are those of Python's hmac, in counter mode (SP 800-108 Rev. 1, 4.1), and of its cryptography.
-ghost use Rattle.std.specs.Prelude.{◌<◌, ◌≤◌, IsTrue};
+ghost use Rattle.std.specs.Prelude.{◌≡◌, ◌<◌, ◌≤◌, IsTrue};
 ghost use Rattle.bits_core.specs.Parameters.{length_fits};
 
 use super::{expect_uses, outcome, slot_at};

@@ -131,6 +131,11 @@ pub(super) fn failed(failure: Failure) -> Outcome {
     }
 }
 
+// A SHA-256 digest, among the bytes that an engine gives it in.
+fn first_half(out: &[u8; 64]) -> &[u8] {
+    &out[..32]
+}
+
 #[test]
 fn random_bits_come_out(rt: HostRuntime) -> Result<(), Fail> {
     let mut noise = counting(rt.alloc(), 1_408)?;
@@ -147,7 +152,7 @@ fn random_bits_come_out(rt: HostRuntime) -> Result<(), Fail> {
     assert_eq!(rt; outbox.bytes().len(), 65_536);
     let mut digest = [0; 64];
     Shipped::new().hash(Alg::Sha256, outbox.bytes(), &mut digest);
-    assert_eq!(rt; &digest[..32], rows::LARGEST_DIGEST.as_slice());
+    assert_eq!(rt; first_half(&digest), rows::LARGEST_DIGEST.as_slice());
     Ok(())
 }
 

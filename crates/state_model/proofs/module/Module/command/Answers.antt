@@ -5,6 +5,7 @@ use Rattle.state_model.specs.ModuleView.{ModuleView}
 use Rattle.state_model.specs.Represents.{Represents, IsRepresented}
 use Rattle.state_model.specs.Step.{step}
 use Rattle.state_model.proofs.Lawfulness.{told_lawful}
+use Rattle.state_model.proofs.Meanings.{answer_means}
 use Rattle.state_model.proofs.Replying.{replied}
 use Rattle.state_model.proofs.module.Module.command.Goals as goal
 
@@ -30,6 +31,16 @@ pub returns-clause-represented : goal.returns-clause-represented
 returns-clause-represented g c =
     let Held : ModuleView g.row.E.Denot → Type 0 = λ m. IsRepresented m in
     subst Held c.self-2.view_is c.self-2.invariant
+
+pub returns-clause-meaning : goal.returns-clause-meaning
+returns-clause-meaning g c standard =
+    let held = c.self.invariant in
+    let At : ModuleView g.row.E.Denot → Type 0 = λ m. Represents m held.0 in
+    let represents : Represents c.args.self.now held.0 = subst At c.self.view_is held.1 in
+    let answer = c.step-outcome.ensures.answer.some in
+    let result = answer.1 [] held.0 represents in
+    answer_means g.E.Engine.calls standard c.args.self.now c.step-outcome.new.self held.0 _ c.args.command.now c.step-outcome.result.status
+    c.step-outcome.new.block c.step-outcome.new.payload.bytes represents result.0
 
 pub returns-clause-lawful : goal.returns-clause-lawful
 returns-clause-lawful g c =

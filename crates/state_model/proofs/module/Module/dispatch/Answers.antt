@@ -67,9 +67,11 @@ returns-clause-answer g c = explained_none _ _ (λ events s represents.
     let known = rw c.service.ensures at (sym c.service_of.ensures ∙ c.in-Some.is) in
     let leave = rw (same_state c.self.view_is represents) at (sym c.permitted.ensures ∙ c.if-not-permitted.false) in
     let good = rw c.body.ensures.body at (sym c.read_request.ensures.read ∙ ap (option_map request_value) c.in-Some-read_request.is) in
-    rw (dispatch_requested g.E.Engine.calls s events c.args.command.now c.in-Some.service known leave, good, c.management_outcome-2.ensures, ap (λ (contents : OutboxContents). contents.bytes) c.requires.payload)
-    (c.run_management_service.ensures.answer s events represents, perform_left g.E.Engine.calls s events (request_value c.in-Some-read_request.request) (λ is. same_false the_type _ _ (sym c.eq.ensures ∙ c.if-eq.false) (sym c.in-Some-read_request.ensures.of_service ∙ ap service_for is))
-    (ap is_cryptographic c.in-Some-read_request.ensures.of_service ∙ sym c.is_cryptographic.ensures ∙ c.if-is_cryptographic.false)))
+    rw (dispatch_requested g.E.Engine.calls s events c.args.command.now c.in-Some.service known leave, good, c.management_outcome-2.ensures, ap (λ (contents : OutboxContents). contents.bytes) c.requires.payload) (
+      c.run_management_service.ensures.answer s events represents,
+      perform_left g.E.Engine.calls s events (request_value c.in-Some-read_request.request) (λ is. same_false the_type _ _ (sym c.eq.ensures ∙ c.if-eq.false) (sym c.in-Some-read_request.ensures.of_service ∙ ap service_for is))
+          (ap is_cryptographic c.in-Some-read_request.ensures.of_service ∙ sym c.is_cryptographic.ensures ∙ c.if-is_cryptographic.false),
+    ))
 
 pub returns-then-eq-clause-answer : goal.returns-then-eq-clause-answer
 returns-then-eq-clause-answer g c = explained_by _ _ c.test_step.ensures.answer (λ events left answer s represents.
