@@ -1,6 +1,6 @@
 -- The error code is 0 exactly outside Error, and stays there until Reset.
-use Rattle.std.proofs.Common.{◌≡◌, ◌≢◌, ℕ, List, Option, Some, refl, ap, ◌∙◌, arith}
-use Rattle.std.specs.Prelude.{◌==◌, not, Bool, true, false}
+use Rattle.std.proofs.Common.{◌≡◌, ◌≢◌, ℕ, List, refl, ap, ◌∙◌, arith}
+use Rattle.std.specs.Prelude.{◌==◌, not, true, false}
 use Rattle.std.proofs.lemmas.Bool.Decides.{nat_tests}
 use Rattle.service_table.specs.Failures.{failure_code}
 use Rattle.service_table.specs.declared.failure.Failure.{Failure}
@@ -8,7 +8,6 @@ use Rattle.service_table.specs.declared.failure.Failure.TheVariants as failure
 use Rattle.service_table.specs.declared.service.Service.TheVariants as service
 use Rattle.service_table.specs.declared.state.State.{State}
 use Rattle.service_table.specs.declared.state.State.TheVariants as state
-use Rattle.service_table.specs.Services.{is_permitted}
 use Rattle.outside.specs.declared.traits.Sample.{Sample}
 use Rattle.module_frames.specs.declared.public_state.PublicState.{PublicState}
 use Rattle.module_frames.specs.LawfulSteps.{is_error}

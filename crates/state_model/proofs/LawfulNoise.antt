@@ -18,7 +18,7 @@ use Rattle.self_tests.specs.Integrity.{image_outcome}
 use Rattle.outside.specs.Events.{next_event, events_after}
 use Rattle.outside.specs.declared.traits.Sample.{Sample}
 use Rattle.outside.specs.declared.traits.Sample.TheVariants as event
-use Rattle.tested_noise.specs.Taken.{Taken, nothing_taken, health_failure, with_tested, with_event, one_more, samples_taken, taken_after}
+use Rattle.tested_noise.specs.Taken.{Taken, nothing_taken, with_tested, with_event, one_more, samples_taken, taken_after}
 use Rattle.module_frames.specs.declared.public_state.PublicState.{PublicState}
 use Rattle.module_frames.specs.PublicEffects.{has_failed, test_done}
 use Rattle.module_frames.specs.PublicState.{no_block}

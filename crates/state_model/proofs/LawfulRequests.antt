@@ -1,9 +1,8 @@
 -- What is done for a request, as everyone can check it: the state it leaves, the payload's length, the indicator and the block.
-use Rattle.std.proofs.Common.{◌≡◌, ◌≢◌, ◌≤◌, ◌+◌, ◌==◌, ◌&&◌, ℕ, List, [], Bool, true, false, Option, Some, None, length, refl, sym, ap, subst, ◌∙◌, arith, if◌then◌else◌}
+use Rattle.std.proofs.Common.{◌≡◌, ◌≢◌, ◌≤◌, ◌+◌, ◌==◌, ◌&&◌, ℕ, List, Bool, true, false, Option, Some, None, length, refl, sym, ap, subst, ◌∙◌, arith, if◌then◌else◌}
 use Rattle.std.specs.Prelude.{not, nat_le, bytes_eq, MatchOption}
 use Rattle.std.specs.List.{list_all}
 use Rattle.std.specs.Option.{option_map, option_map_or}
-use Rattle.std.proofs.lemmas.Bool.Decides.{nat_tests}
 use Rattle.bits_core.specs.declared.parameter.Header.{Header}
 use Rattle.drbg_core.specs.declared.generator.Drbg.{Drbg}
 use Rattle.service_table.specs.Answers.{is_status_among}
@@ -12,7 +11,6 @@ use Rattle.service_table.specs.Services.{is_permitted, is_approved}
 use Rattle.service_table.specs.declared.failure.Failure.{Failure}
 use Rattle.service_table.specs.declared.failure.Failure.TheVariants as failure
 use Rattle.service_table.specs.declared.service.Service.TheVariants as service
-use Rattle.service_table.specs.declared.state.State.TheVariants as state
 use Rattle.service_table.specs.declared.status.Status.{Status}
 use Rattle.service_table.specs.declared.status.Status.TheVariants as status
 use Rattle.self_tests.specs.declared.numbers.Test.{Test}
@@ -21,13 +19,13 @@ use Rattle.ssp_slots.specs.declared.slot.Slot.{Slot}
 use Rattle.ssp_slots.specs.declared.slot_fault.SlotFault.{SlotFault}
 use Rattle.ssp_slots.specs.declared.slot_fault.SlotFault.TheVariants as fault
 use Rattle.ssp_slots.specs.Refusals.{vacancy_fault}
-use Rattle.ssp_slots.specs.Slots.{HoldsParameter, empty_slot, slot_in}
+use Rattle.ssp_slots.specs.Slots.{HoldsParameter, empty_slot}
 use Rattle.outside.specs.declared.traits.Sample.{Sample}
 use Rattle.module_frames.specs.declared.head.ReplyHead.{ReplyHead}
 use Rattle.module_frames.specs.declared.public_state.PublicState.{PublicState}
 use Rattle.module_frames.specs.PublicEffects.{use_counted, is_period_over, sent_to_tests, has_failed}
 use Rattle.module_frames.specs.PublicState.{no_block}
-use Rattle.module_frames.specs.LawfulSteps.{IsFailure, ByDone, IsPayloadLength, IsBlockOf, IsSlotBlock, IsIndicated, refusals_at_once, failures, is_ok, is_approved_use, left_by, period_ended, alg_named, mac_length_of, names_no_slot, test_failure}
+use Rattle.module_frames.specs.LawfulSteps.{IsFailure, ByDone, IsPayloadLength, IsBlockOf, IsSlotBlock, IsIndicated, refusals_at_once, is_ok, is_approved_use, left_by, period_ended, alg_named, mac_length_of, names_no_slot}
 use Rattle.module_frames.specs.Requests.{RequestValue, CryptographicRequest, IsInRange, IsCryptographicInRange, service_for, cryptographic_service_for}
 use Rattle.module_frames.specs.Requests as request
 use Rattle.engine_core.specs.Calls.{Calls, Keeps}
@@ -38,9 +36,9 @@ use Rattle.state_model.specs.declared.entry.Target.{Target}
 use Rattle.state_model.specs.Commit.{unless, check_value, entered}
 use Rattle.state_model.specs.Entries.{with_piece, entry_length}
 use Rattle.state_model.specs.MachineState.{MachineState, Shared, IsWellFormed, state_of, vault_of}
-use Rattle.state_model.specs.Management.{Stepped, refused, done, committed, test_step, tests_forgotten}
+use Rattle.state_model.specs.Management.{Stepped, refused, done, committed, tests_forgotten}
 use Rattle.state_model.specs.SelfTesting.{test_for, due_at_first_use}
-use Rattle.state_model.specs.SlotBlock.{header_block, slot_block}
+use Rattle.state_model.specs.SlotBlock.{header_block}
 use Rattle.state_model.specs.Permission.{IsPermittedIn}
 use Rattle.state_model.specs.Cryptographic.{Ready, before_slots, drawn_for, service_at, after_slots, served, cryptographic_step, slots_named, use_of}
 use Rattle.state_model.specs.Step.{perform, indicated}
@@ -53,7 +51,7 @@ use Rattle.state_model.proofs.PublicRules.{failed_is_not_over}
 use Rattle.state_model.proofs.Readiness.{is_ready, is_untested, is_without_noise, ready_by, ready_known}
 use Rattle.state_model.proofs.RequestReading.{IsOfBytes, IsCryptographicOfBytes}
 use Rattle.state_model.proofs.Rules.{generator_in_use, healthy_in_use}
-use Rattle.state_model.proofs.Statuses.{OfServices, performed_status}
+use Rattle.state_model.proofs.Statuses.{performed_status}
 
 -- what is done for a request, by the public state that it finds and leaves, its status, block and payload's length
 pub record IsPerformed (what : RequestValue) (found left : PublicState) (outcome : Status) (told : List ℕ) (long : ℕ) : Type 0 where
@@ -158,8 +156,8 @@ cryptographic_performed {V} calls s events what keeps rules allowed range bytes 
     let Fresh : Ready V → Type 0 = λ ready. ready.refused ≡ None → IsDrawnFor what ready.drawn in
     let passed = generator_in_use s rules allowed in
     let fresh : Fresh (before_slots calls s.shared events what) =
-      ready_by calls s.shared events what Fresh keeps (healthy_in_use s rules allowed) passed.seeded passed.requests
-      (λ more engine generator samples drawn left includes healthy least most drawn_for_it _. drawn_for_it) (λ test engine none. cc) (λ reason more engine generator samples left is none. cc) in
+    ready_by calls s.shared events what Fresh keeps (healthy_in_use s rules allowed) passed.seeded passed.requests
+    (λ more engine generator samples drawn left includes healthy least most drawn_for_it _. drawn_for_it) (λ test engine none. cc) (λ reason more engine generator samples left is none. cc) in
     ready_known calls s.shared events what P (λ more engine generator samples drawn left is_fresh. used more engine generator samples drawn left (is_fresh refl)) (λ test engine due _. untested test engine due)
     (λ reason more engine generator samples left before is _. without_noise reason more engine generator samples left before is) fresh
   where

@@ -36,7 +36,7 @@ use Rattle.engine_core.specs.Results.{Opened, wrapped_length}
 use Rattle.crypto_services.specs.AtSlots.{Answer, SlotResult, with_slot_at, domain_at, fault_status, on_source, source_by, second_under, unless_fault, refused_at, filled_at, refusal, success}
 use Rattle.crypto_services.specs.Services.{is_leftmost, verified}
 use Rattle.crypto_services.specs.Sealing.{opened}
-use Rattle.crypto_services.specs.Wrapping.{wrap_at, unwrap_at, is_wrappable, wrapping_in, filled_if_fits, filled_by_unwrapping}
+use Rattle.crypto_services.specs.Wrapping.{wrap_at, unwrap_at, is_wrappable, wrapping_in, filled_by_unwrapping}
 use Rattle.crypto_services.specs.Derivation.{derive_at}
 use Rattle.state_model.specs.Cryptographic.{service_at}
 use Rattle.state_model.proofs.Draws.{IsDrawnFor}

@@ -1,5 +1,5 @@
 -- Each step is lawful.
-use Rattle.std.proofs.Common.{◌≡◌, ◌≢◌, ℕ, List, Bool, true, false, Option, Some, None, Result, Ok, Err, refl, sym, ap, subst, ◌∙◌, if◌then◌else◌}
+use Rattle.std.proofs.Common.{◌≡◌, ◌≢◌, ℕ, List, Bool, true, false, Option, Some, None, Result, Err, refl, sym, ap, subst, ◌∙◌, if◌then◌else◌}
 use Rattle.std.specs.Prelude.{IfSome, MatchResult}
 use Rattle.bits_core.specs.ByteList.{IsBytes}
 use Rattle.service_table.specs.declared.service.Service.{Service}
@@ -16,7 +16,7 @@ use Rattle.module_frames.specs.PublicEffects.{sequence_taken}
 use Rattle.module_frames.specs.ReplyFrames.{ReplyFrame, head_of}
 use Rattle.module_frames.specs.Replies.{frame_of}
 use Rattle.module_frames.specs.declared.reply.Reply.{Reply}
-use Rattle.module_frames.specs.Requests.{RequestValue, IsInRange, service_for, request_of}
+use Rattle.module_frames.specs.Requests.{RequestValue, IsInRange, request_of}
 use Rattle.module_frames.specs.Sequencing.{is_in_order, sequence_seen}
 use Rattle.module_frames.specs.declared.head.ReplyHead.{ReplyHead}
 use Rattle.module_frames.specs.declared.public_state.PublicState.{PublicState}
