@@ -40,7 +40,7 @@ test_done public =
 
 -- a failure: the state is Error, with the code of what failed, and no test is due any more
 abbrev pub has_failed : Failure → PublicState → PublicState
-has_failed why public = record public { state = state.Error; return_state = state.Off; tests_done = 0; error_code = failure_code why }
+has_failed reason public = record public { state = state.Error; return_state = state.Off; tests_done = 0; error_code = failure_code reason }
 
 -- the state of a role: none, the crypto officer's, the user's
 abbrev pub role_state : ℕ → State

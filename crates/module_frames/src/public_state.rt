@@ -122,14 +122,14 @@ impl PublicState {
     }
 
     /// After a failure: Error, with the code of what failed. The period and the uses counted stay.
-    pub fn has_failed(self, why: Failure) -> PublicState
-        ensures { result ≡ has_failed why self }
+    pub fn has_failed(self, reason: Failure) -> PublicState
+        ensures { result ≡ has_failed reason self }
     {
         PublicState {
             state: State::Error,
             return_state: State::Off,
             tests_done: 0,
-            error_code: why.code(),
+            error_code: reason.code(),
             ..self
         }
     }

@@ -91,12 +91,12 @@ pub record IsOutcome {V S K : Type 0} (calls : Calls V) (engine : V) (files : Op
 
 -- why the image of this name wasn't loaded: it is too long, its call failed, or there was no memory
 abbrev pub ImageRefused : Option FilesContent → (name : List ℕ) → RunFault → (faults faults' : ℕ) → Type 0
-ImageRefused files name why faults faults' =
-    ((why ≡ fault.ImageTooLong) × IfSome files (λ all. HasFileAbove all name LARGEST_IMAGE) × (faults' ≡ faults))
-    ⊎ ((why ≡ fault.FileFailed) × FaultCounted faults faults') ⊎ ((why ≡ fault.OutOfMemory) × (faults' ≡ faults))
+ImageRefused files name reason faults faults' =
+    ((reason ≡ fault.ImageTooLong) × IfSome files (λ all. HasFileAbove all name LARGEST_IMAGE) × (faults' ≡ faults))
+    ⊎ ((reason ≡ fault.FileFailed) × FaultCounted faults faults') ⊎ ((reason ≡ fault.OutOfMemory) × (faults' ≡ faults))
 
 -- why the file of this name gave no digest: it isn't of the form, its call failed, or there was no memory
 abbrev pub DigestRefused : Option FilesContent → (name : List ℕ) → RunFault → (faults faults' : ℕ) → Type 0
-DigestRefused files name why faults faults' =
-    ((why ≡ fault.BadDigest) × IfSome files (λ all. (text : List ℕ) × HasFile all name text × (digest_of text ≡ None)) × (faults' ≡ faults))
-    ⊎ ((why ≡ fault.FileFailed) × FaultCounted faults faults') ⊎ ((why ≡ fault.OutOfMemory) × (faults' ≡ faults))
+DigestRefused files name reason faults faults' =
+    ((reason ≡ fault.BadDigest) × IfSome files (λ all. (text : List ℕ) × HasFile all name text × (digest_of text ≡ None)) × (faults' ≡ faults))
+    ⊎ ((reason ≡ fault.FileFailed) × FaultCounted faults faults') ⊎ ((reason ≡ fault.OutOfMemory) × (faults' ≡ faults))

@@ -59,8 +59,8 @@ abbrev pub digest_line : {V : Type 0} → Calls V → V → (image : List ℕ) �
 digest_line calls engine image = encode_lower (image_digest calls engine image) ++ 10 ∷ []
 
 -- nothing is written, and the status says why
-abbrev pub IsRefused : (why status : ℕ) (out : List ℕ) → Type 0
-IsRefused why status out = (status ≡ why) × (out ≡ [])
+abbrev pub IsRefused : (reason status : ℕ) (out : List ℕ) → Type 0
+IsRefused reason status out = (status ≡ reason) × (out ≡ [])
 
 -- the image of this name is too long, or it isn't and something follows from its bytes
 abbrev pub WithImage : FilesContent → (name : List ℕ) (status : ℕ) (out : List ℕ) → (List ℕ → Type 0) → Type 0

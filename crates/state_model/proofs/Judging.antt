@@ -1,5 +1,5 @@
 -- A module whose engine was tested, and the machine that it represents.
-use Rattle.std.proofs.Common.{◌≡◌, ◌≢◌, ℕ, List, [], true, Option, Some, None, refl, sym, ap, subst, ◌∙◌, arith, Bool, false, ◌≤◌, ◌+◌}
+use Rattle.std.proofs.Common.{◌≡◌, ◌≢◌, ℕ, List, [], true, Option, Some, None, refl, sym, ap, subst, ◌∙◌, arith, Bool, false}
 use Rattle.std.specs.Prelude.{nat_lt, not, IfSome, MatchOption}
 use Rattle.drbg_core.specs.declared.generator.Drbg.{Drbg}
 use Rattle.noise_health.specs.declared.health.Health.{Health}

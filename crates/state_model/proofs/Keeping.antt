@@ -1,5 +1,5 @@
 -- A step keeps the rules.
-use Rattle.std.proofs.Common.{◌≡◌, Bool, true, false, List, [], ℕ, zero, suc, Option, Some, None, refl, ap, ◌∙◌, length, arith, take, if◌then◌else◌}
+use Rattle.std.proofs.Common.{◌≡◌, Bool, true, false, List, [], ℕ, zero, suc, Option, Some, None, refl, ap, ◌∙◌, arith, take, if◌then◌else◌}
 use Rattle.noise_health.specs.Signals.{health_signal}
 use Rattle.std.specs.Prelude.{IfSome}
 use Rattle.bits_core.specs.ByteList.{IsBytes}
@@ -11,7 +11,6 @@ use Rattle.service_table.specs.Numbers.{service_numbered}
 use Rattle.service_table.specs.declared.failure.Failure.TheVariants as failure
 use Rattle.service_table.specs.Services.{is_permitted}
 use Rattle.self_tests.specs.Tests.{number_of}
-use Rattle.ssp_slots.specs.Slots.{Contents}
 use Rattle.ssp_slots.proofs.WellFormedSlots.{AreWellFormed-empty}
 use Rattle.outside.specs.declared.traits.Sample.{Sample}
 use Rattle.module_frames.specs.Requests.{RequestValue, CryptographicRequest, IsInRange, IsCryptographicInRange, request_of, cryptographic_service_for}

@@ -1,5 +1,5 @@
 -- What a handler did is what a request asks for.
-use Rattle.std.proofs.Common.{◌≡◌, ℕ, List, [], Option, Some, None, refl, sym, subst}
+use Rattle.std.proofs.Common.{◌≡◌, ℕ, List, [], refl, sym, subst}
 use Rattle.noise_health.specs.declared.health.Health.{Health}
 use Rattle.noise_health.specs.Counts.{Counts}
 use Rattle.outside.specs.declared.traits.Sample.{Sample}
@@ -8,7 +8,6 @@ use Rattle.engine_core.specs.Calls.{Calls}
 use Rattle.random_bits.specs.Draws.{Drawn}
 use Rattle.crypto_services.specs.declared.outcome.Outcome.{Outcome}
 use Rattle.crypto_services.specs.declared.parts.Parts.{Parts}
-use Rattle.crypto_services.specs.AtSlots.{SlotsResult}
 use Rattle.crypto_services.specs.Serves.{Serves}
 use Rattle.crypto_services.specs.Drawing.{ServesDrawn, after_draw}
 use Rattle.state_model.specs.Cryptographic.{undrawn, drawn_for, service_at, use_of}

@@ -1,6 +1,6 @@
 -- What a cryptographic service does at the slots keeps their rules.
-use Rattle.std.proofs.Common.{◌≡◌, ◌≤◌, ◌<◌, ◌^◌, ◌==◌, ◌&&◌, ℕ, List, [], ◌∷◌, Bool, true, false, Option, Some, None, length, take, refl, sym, ap, subst, ◌∙◌, arith, if◌then◌else◌}
-use Rattle.std.specs.Prelude.{not, nat_le, IsTrue, MatchOption}
+use Rattle.std.proofs.Common.{◌≡◌, ◌<◌, ◌^◌, ◌==◌, ◌&&◌, ℕ, List, [], ◌∷◌, Bool, true, false, Option, Some, None, length, take, refl, sym, subst, arith, if◌then◌else◌}
+use Rattle.std.specs.Prelude.{not, IsTrue, MatchOption}
 use Rattle.std.proofs.lemmas.Bool.Decides.{nat_tests}
 use Rattle.bits_core.specs.ByteList.{IsBytes}
 use Rattle.bits_core.specs.Parameters.{length_fits, is_aes_length}
@@ -11,7 +11,6 @@ use Rattle.bits_core.specs.declared.parameter.Kind.{Kind}
 use Rattle.bits_core.specs.declared.parameter.Kind.TheVariants as kinds
 use Rattle.bits_core.proofs.Bytes.{IsBytes-take}
 use Rattle.service_table.specs.declared.service.Service.TheVariants as service
-use Rattle.service_table.specs.declared.status.Status.TheVariants as status
 use Rattle.service_table.specs.Services.{is_approved, wrapping_service, unwrapping_service}
 use Rattle.ssp_slots.specs.declared.slot.Slot.{Slot}
 use Rattle.ssp_slots.specs.declared.slot_fault.SlotFault.{SlotFault}
@@ -26,11 +25,11 @@ use Rattle.module_frames.specs.Requests as request
 use Rattle.engine_core.specs.Calls.{Calls, Keeps}
 use Rattle.engine_core.specs.Inputs.{IsAesKey, IsUnwrappable}
 use Rattle.engine_core.specs.Results.{AreBytes}
-use Rattle.crypto_services.specs.AtSlots.{SlotResult, Source, slot_at, with_slot_at, on_slot, on_two_slots, second_under, source, source_by, domain_at, unless_fault, filled_at}
+use Rattle.crypto_services.specs.AtSlots.{SlotResult, with_slot_at, second_under, source, source_by, domain_at}
 use Rattle.crypto_services.specs.Services.{mac_at, mac_verify_at}
 use Rattle.crypto_services.specs.Sealing.{seal_at, seal_iv_at, open_at}
-use Rattle.crypto_services.specs.Wrapping.{wrap_at, unwrap_at, wrapping_source, unwrapping_source, is_wrappable, filled_if_fits, filled_by_unwrapping, header_under}
-use Rattle.crypto_services.specs.Derivation.{derive_at, derivation_source}
+use Rattle.crypto_services.specs.Wrapping.{wrap_at, unwrap_at, is_wrappable, filled_if_fits, filled_by_unwrapping, header_under}
+use Rattle.crypto_services.specs.Derivation.{derive_at}
 use Rattle.crypto_services.specs.Drawing.{generate_at}
 use Rattle.state_model.specs.Cryptographic.{service_at}
 use Rattle.state_model.proofs.Rules.{on_slot_kept, on_source_kept, fault_kept}

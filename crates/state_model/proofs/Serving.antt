@@ -5,9 +5,7 @@ use Rattle.noise_health.specs.declared.health.Health.{Health}
 use Rattle.noise_health.specs.Counts.{Counts}
 use Rattle.service_table.specs.declared.failure.Failure.{Failure}
 use Rattle.service_table.specs.declared.service.Service.TheVariants as service
-use Rattle.service_table.specs.declared.status.Status.TheVariants as status
 use Rattle.service_table.specs.Services.{is_permitted}
-use Rattle.ssp_slots.specs.declared.slot.Slot.{Slot}
 use Rattle.ssp_slots.specs.Slots.{Contents, AreWellFormed}
 use Rattle.outside.specs.declared.traits.Sample.{Sample}
 use Rattle.module_frames.specs.declared.public_state.PublicState.{PublicState}
@@ -20,10 +18,9 @@ use Rattle.crypto_services.specs.declared.outcome.Outcome.{Outcome}
 use Rattle.crypto_services.specs.declared.parts.Parts.{Parts}
 use Rattle.crypto_services.specs.AtSlots.{SlotsResult}
 use Rattle.crypto_services.specs.Drawing.{ServesDrawn, after_draw_by}
-use Rattle.state_model.specs.declared.entry.Entry.{Entry}
 use Rattle.state_model.specs.ModuleView.{ModuleView}
 use Rattle.state_model.specs.MachineState.{MachineState, Shared, IsWellFormed}
-use Rattle.state_model.specs.Cryptographic.{Ready, service_at, served, after_slots, link_of, with_link, with_drawn, ready_drawn, failed_by, use_of}
+use Rattle.state_model.specs.Cryptographic.{service_at, served, link_of, with_link, with_drawn, ready_drawn, failed_by, use_of}
 use Rattle.state_model.specs.Represents.{machine_of, Represents, IsServiceResult}
 use Rattle.state_model.proofs.PublicRules.{failed_is_not_over}
 use Rattle.state_model.proofs.Testing.{Includes}

@@ -34,8 +34,8 @@ after_check calls engine target bytes = calls.mac_after engine Sha256 bytes (tar
 
 -- refused for a reason that applies, and else served
 abbrev pub unless : {V : Type 0} → V → Slot → Bool → Status → SlotResult V → SlotResult V
-unless engine slot true why served = refused_at engine slot why
-unless engine slot false why served = served
+unless engine slot true reason served = refused_at engine slot reason
+unless engine slot false reason served = served
 
 -- A commit at the target's slot. Looked at in this order: as many bytes were entered as the parameter has, the slot is empty, and the
 -- check value is right. Then the slot holds the parameter.

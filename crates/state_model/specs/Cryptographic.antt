@@ -1,6 +1,6 @@
 -- How a cryptographic service is done, in three parts that their types keep apart: what comes before the slots, what is done at them,
 -- and what comes after. The first and the last see no slot and no entry.
-use Rattle.std.specs.Prelude.{ℕ, Bool, List, [], ◌∷◌, Option, Some, None, length, if◌then◌else◌}
+use Rattle.std.specs.Prelude.{ℕ, Bool, List, [], ◌∷◌, Option, Some, None, if◌then◌else◌}
 use Rattle.bits_core.specs.declared.parameter.Kind.{Kind}
 use Rattle.bits_core.specs.declared.parameter.Kind.TheVariants as kinds
 use Rattle.drbg_core.specs.declared.generator.Drbg.{Drbg}

@@ -64,7 +64,7 @@ ZeroisingEmptiesTree {V} calls = (s : MachineState V) (events : List Sample) (co
 
 -- the refusals of a command in its order that come before anything is done
 abbrev pub IsRefusedAtOnce : Status → Type 0
-IsRefusedAtOnce why = (why ≡ status.UnknownService) ⊎ ((why ≡ status.NotInState) ⊎ (why ≡ status.BadBody))
+IsRefusedAtOnce outcome = (outcome ≡ status.UnknownService) ⊎ ((outcome ≡ status.NotInState) ⊎ (outcome ≡ status.BadBody))
 
 -- such a refusal changes nothing but that the command's sequence number is taken, takes no event of noise, and tells nothing
 abbrev pub RefusalsChangeNothing : {V : Type 0} → Calls V → Type 0

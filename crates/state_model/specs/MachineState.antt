@@ -99,7 +99,7 @@ IsFailure failure.Proportion = Unit {0}
 
 -- the error code is that of a failure
 abbrev pub IsFailureCode : ℕ → Type 0
-IsFailureCode code = (why : Failure) × IsFailure why × (code ≡ failure_code why)
+IsFailureCode code = (reason : Failure) × IsFailure reason × (code ≡ failure_code reason)
 
 -- HMAC-SHA-256 has passed its test, and so has the generator; and that was seeded, and has answered no more requests than one seed allows
 pub record HavePassed (tests_passed : ℕ) (generator : Drbg) : Type 0 where

@@ -31,11 +31,11 @@ pub record Stepped (V : Type 0) : Type 0 where
 
 -- an answer without a payload
 abbrev pub answered : {V : Type 0} → MachineState V → Status → List ℕ → List Sample → Stepped V
-answered after why block events = record { machine = after; status = why; block = block; payload = []; left = events }
+answered after outcome block events = record { machine = after; status = outcome; block = block; payload = []; left = events }
 
 -- a refusal changes nothing and tells nothing but its reason
 abbrev pub refused : {V : Type 0} → MachineState V → Status → List Sample → Stepped V
-refused s why events = answered s why no_block events
+refused s reason events = answered s reason no_block events
 
 -- it was done
 abbrev pub done : {V : Type 0} → MachineState V → List ℕ → List Sample → Stepped V
@@ -68,7 +68,7 @@ with_tested shared tests = record shared { public = tests.judgement.public; test
 -- after a test that passed the next is due, and after the last one it is back where tests return
 abbrev pub after_test : {V : Type 0} → MachineState V → Shared V → Option Status → List Sample → Stepped V
 after_test s shared None events = done (record s { shared = record shared { public = test_done shared.public } }) no_block events
-after_test s shared (Some why) events = answered (record s { shared = shared }) why no_block events
+after_test s shared (Some reason) events = answered (record s { shared = shared }) reason no_block events
 
 -- TestStep: the test that is due is made, and after the last one the generator is seeded
 abbrev pub test_step : {V : Type 0} → Calls V → MachineState V → List Sample → Stepped V

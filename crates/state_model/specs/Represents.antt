@@ -39,9 +39,9 @@ abbrev pub IsRepresented : {V : Type 0} → ModuleView V → Type 0
 IsRepresented {V} m = (s : MachineState V) × Represents m s
 
 -- the module, the status, the block and the payload are those of a step
-pub record IsServiceResult {V : Type 0} (after : Stepped V) (m : ModuleView V) (why : Status) (block payload : List ℕ) : Type 0 where
+pub record IsServiceResult {V : Type 0} (after : Stepped V) (m : ModuleView V) (outcome : Status) (block payload : List ℕ) : Type 0 where
   pub represents : Represents m after.machine
-  pub same_status : why ≡ after.status
+  pub same_status : outcome ≡ after.status
   pub same_block : block ≡ after.block
   pub same_payload : payload ≡ after.payload
 

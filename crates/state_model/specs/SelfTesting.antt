@@ -60,7 +60,7 @@ step_tested calls engine public tests_passed image digest =
 -- a seed is due after the last of the three tests, where that passed
 abbrev pub is_seed_due : PublicState → Option Status → Bool
 is_seed_due public None = not (nat_lt public.tests_done 2)
-is_seed_due public (Some why) = false
+is_seed_due public (Some reason) = false
 
 -- The generator is seeded anew where that is due (SP 800-90A Rev. 1, 9.1), with noise that is tested with all samples before it.
 abbrev pub seeded_when : {V : Type 0} → Calls V → V → Drbg → List ℕ → List Sample → Bool → Drawn V
@@ -71,7 +71,7 @@ seeded_when calls engine generator samples events false =
 -- where the noise failed the state is Error, and the command is refused
 abbrev pub noise_judgement : Judgement → Option Failure → Judgement
 noise_judgement judged None = judged
-noise_judgement judged (Some why) = record judged { public = has_failed why judged.public; refused = Some status.NoiseFault }
+noise_judgement judged (Some reason) = record judged { public = has_failed reason judged.public; refused = Some status.NoiseFault }
 
 -- a step's seed, where it is due, as engine, generator and counters have it, and the judgement after it
 pub record IsSeeded {V : Type 0} (seed : Drawn V) (judged : Judgement) (engine : V) (generator : Drbg) (health : Health) (result : Judgement) (left : List Sample) : Type 0 where
@@ -93,4 +93,4 @@ due_at_first_use tests_passed (Some test) = if has_test tests_passed test then N
 -- after a test of TestStep: the public state, and the status
 abbrev pub stepped_with : PublicState → Option Status → PublicState × Status
 stepped_with public None = (test_done public, status.Ok)
-stepped_with public (Some why) = (public, why)
+stepped_with public (Some reason) = (public, reason)

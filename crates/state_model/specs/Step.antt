@@ -1,5 +1,5 @@
 -- One step of the machine.
-use Rattle.std.specs.Prelude.{ℕ, ◌==◌, List, Bool, true, false, Option, Some, None, if◌then◌else◌}
+use Rattle.std.specs.Prelude.{ℕ, List, Bool, false, Option, Some, None, if◌then◌else◌}
 use Rattle.service_table.specs.declared.service.Service.{Service}
 use Rattle.service_table.specs.declared.status.Status.{Status}
 use Rattle.service_table.specs.declared.status.Status.TheVariants as status
@@ -75,23 +75,23 @@ request_at (Some service) body = request_of service body
 
 -- The indicator of a reply, by the command, its status and the slots after it: of approved uses of cryptographic services alone.
 abbrev pub indicated : Option RequestValue → Status → List Slot → Bool
-indicated None why slots = false
-indicated (Some (request.PowerOn period)) why slots = false
-indicated (Some request.TestStep) why slots = false
-indicated (Some request.RequestTests) why slots = false
-indicated (Some request.ShowStatus) why slots = false
-indicated (Some request.ShowVersion) why slots = false
-indicated (Some (request.SelectRole role)) why slots = false
-indicated (Some request.Reset) why slots = false
-indicated (Some (request.EntryBegin slot header long)) why slots = false
-indicated (Some (request.EntryBytes piece)) why slots = false
-indicated (Some (request.EntryCommit check)) why slots = false
-indicated (Some request.EntryAbort) why slots = false
-indicated (Some (request.Zeroise slot)) why slots = false
-indicated (Some (request.ZeroiseTree slot)) why slots = false
-indicated (Some request.ZeroiseAll) why slots = false
-indicated (Some (request.ShowSlot slot)) why slots = false
-indicated (Some (request.Cryptographic what)) why slots = indicator (use_of what) why slots
+indicated None outcome slots = false
+indicated (Some (request.PowerOn period)) outcome slots = false
+indicated (Some request.TestStep) outcome slots = false
+indicated (Some request.RequestTests) outcome slots = false
+indicated (Some request.ShowStatus) outcome slots = false
+indicated (Some request.ShowVersion) outcome slots = false
+indicated (Some (request.SelectRole role)) outcome slots = false
+indicated (Some request.Reset) outcome slots = false
+indicated (Some (request.EntryBegin slot header long)) outcome slots = false
+indicated (Some (request.EntryBytes piece)) outcome slots = false
+indicated (Some (request.EntryCommit check)) outcome slots = false
+indicated (Some request.EntryAbort) outcome slots = false
+indicated (Some (request.Zeroise slot)) outcome slots = false
+indicated (Some (request.ZeroiseTree slot)) outcome slots = false
+indicated (Some request.ZeroiseAll) outcome slots = false
+indicated (Some (request.ShowSlot slot)) outcome slots = false
+indicated (Some (request.Cryptographic what)) outcome slots = indicator (use_of what) outcome slots
 
 -- the reply to a command, after its step: state and error code are those after it, also where it was refused
 abbrev pub reply_to : {V : Type 0} → CommandFrame → Stepped V → ReplyFrame

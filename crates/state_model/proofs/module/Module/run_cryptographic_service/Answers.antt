@@ -1,4 +1,4 @@
-use Rattle.std.proofs.Common.{◌≡◌, ◌∙◌, [], ℕ, List, refl, subst, sym, ap}
+use Rattle.std.proofs.Common.{◌≡◌, ◌∙◌, [], refl, subst, sym, ap}
 use Rattle.bits_core.specs.OutboxContents.{OutboxContents}
 use Rattle.outside.proofs.Explanations.{explained_none, explained_by}
 use Rattle.module_frames.specs.PublicState.{no_block}
