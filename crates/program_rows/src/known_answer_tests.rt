@@ -3,7 +3,7 @@ use crate::runs::{
     Dialogue, NO_BLOCK, NOTHING, ONE_PASS, Row, TWO_PASSES, outcome_over, play, play_with_code,
 };
 use crate::service_rows::{HASH_256_ABC, HASH_256_ABC_TURNED};
-use crate::service_tests::{POWER_ON, REQUEST_TESTS, RESET, TESTED, UP, USER};
+use crate::service_tests::{OFFICER, POWER_ON, REQUEST_TESTS, RESET, TESTED, UP, USER};
 use engine_core::Faulty;
 use std::alloc::Global;
 use std::test::Fail;
@@ -142,15 +142,28 @@ const UP_1: [Row<'static>; 6] = [
     USER,
 ];
 
+const SEAL_FAILS: Row<'static> = (0x13, b"\x00\x10\x00\x00\x00\x00abc", 4, 7, NOTHING);
+
+// Whether the one use of a period fails over this engine, and leads to the state Error and not to the tests.
+fn is_refused_at_end_of_period(
+    alloc: Global,
+    engine: Faulty,
+    failing: Row,
+    code: (u8, u8),
+) -> Result<bool, Fail> {
+    let mut dialogue = Dialogue::new(alloc);
+    fail(&mut dialogue, &UP_1, failing, code, ONE_COUNTED)?;
+    let (status, replies) = outcome_over(alloc, engine, ONE_PASS, &dialogue.stream, 7)?;
+    Ok(status == 0 && replies.bytes() == dialogue.want.as_slice())
+}
+
 // The end of the period leads to no tests where it failed.
 #[test]
 fn fails_a_first_use(rt: HostRuntime) -> Result<(), Fail> {
-    let mut dialogue = Dialogue::new(rt.alloc());
-    fail(&mut dialogue, &UP_1, HASH_FAILS, (1, 1), ONE_COUNTED)?;
-    let engine = Faulty::new(0, 0, 0);
-    let (status, replies) = outcome_over(rt.alloc(), engine, ONE_PASS, &dialogue.stream, 7)?;
-    assert_eq!(rt; status, 0);
-    assert_eq!(rt; replies.bytes(), dialogue.want.as_slice());
+    let digest = Faulty::new(0, 0, 0);
+    let seal = Faulty::new(2, 0, 0);
+    assert!(rt; is_refused_at_end_of_period(rt.alloc(), digest, HASH_FAILS, (1, 1))?);
+    assert!(rt; is_refused_at_end_of_period(rt.alloc(), seal, SEAL_FAILS, (1, 7))?);
     Ok(())
 }
 
@@ -219,5 +232,97 @@ fn tests_another_algorithm_at_its_own_first_use(rt: HostRuntime) -> Result<(), F
     );
     assert!(rt; is_refused_at_first_use(rt.alloc(), mac, &[], HMAC_384, (1, 5), BOTH_PASSED)?);
     assert!(rt; is_refused_at_first_use(rt.alloc(), mac, &[], HMAC_512, (1, 6), BOTH_PASSED)?);
+    Ok(())
+}
+
+// The first use of a service that is due for a known-answer test: the number of the engine's call that is wrong, the number of the
+// test, and the role in which the service is asked for.
+#[derive(Clone, Copy)]
+struct FirstUse {
+    call: u8,
+    test: u8,
+    role: Row<'static>,
+    failing: Row<'static>,
+}
+
+const UNWRAPPED: [u8; 32] = [
+    0, 1, 1, 0, 0, 0, 0, 1, 0, 0, 0, 0, 0, 0, 0, 0, 0, 0, 0, 0, 0, 0, 0, 0, 0, 0, 0, 0, 0, 0, 0, 0,
+];
+
+const FIRST_USES: [FirstUse; 8] = [
+    FirstUse {
+        call: 2,
+        test: 7,
+        role: USER,
+        failing: SEAL_FAILS,
+    },
+    FirstUse {
+        call: 2,
+        test: 7,
+        role: USER,
+        failing: (0x14, b"\x00\x10\x01\x00\x00\x00\x00iabc", 4, 7, NOTHING),
+    },
+    FirstUse {
+        call: 3,
+        test: 8,
+        role: USER,
+        failing: (
+            0x15,
+            b"\x00\x0c\x01\x00\x00\x00\x00iabcdefghijklmno",
+            4,
+            7,
+            NOTHING,
+        ),
+    },
+    FirstUse {
+        call: 4,
+        test: 9,
+        role: OFFICER,
+        failing: (0x16, &[0, 1], 4, 7, NOTHING),
+    },
+    FirstUse {
+        call: 5,
+        test: 10,
+        role: OFFICER,
+        failing: (0x17, &UNWRAPPED, 4, 7, NOTHING),
+    },
+    FirstUse {
+        call: 4,
+        test: 11,
+        role: OFFICER,
+        failing: (0x18, &[0, 1], 4, 7, NOTHING),
+    },
+    FirstUse {
+        call: 5,
+        test: 12,
+        role: OFFICER,
+        failing: (0x19, &UNWRAPPED, 4, 7, NOTHING),
+    },
+    FirstUse {
+        call: 6,
+        test: 13,
+        role: USER,
+        failing: (0x1a, &[0, 1, 3, 0, 0, 0, 0, 1, 16, 0], 4, 7, NOTHING),
+    },
+];
+
+// All slots are empty.
+#[test]
+fn tests_each_service_at_its_first_use(rt: HostRuntime) -> Result<(), Fail> {
+    for FirstUse {
+        call,
+        test,
+        role,
+        failing,
+    } in FIRST_USES {
+        let engine = Faulty {
+            call,
+            left: 0,
+            bit: 0,
+        };
+        assert!(rt;
+            is_refused_at_first_use(rt.alloc(), engine, &[role], failing, (1, test), BOTH_PASSED)?
+        );
+    }
     Ok(())
 }
