@@ -235,94 +235,111 @@ fn tests_another_algorithm_at_its_own_first_use(rt: HostRuntime) -> Result<(), F
     Ok(())
 }
 
-// The first use of a service that is due for a known-answer test: the number of the engine's call that is wrong, the number of the
-// test, and the role in which the service is asked for.
-#[derive(Clone, Copy)]
-struct FirstUse {
-    call: u8,
-    test: u8,
-    role: Row<'static>,
-    failing: Row<'static>,
-}
+const SEAL_IV_FAILS: Row<'static> = (0x14, b"\x00\x10\x01\x00\x00\x00\x00iabc", 4, 7, NOTHING);
+
+const OPEN_FAILS: Row<'static> = (
+    0x15,
+    b"\x00\x0c\x01\x00\x00\x00\x00iabcdefghijklmno",
+    4,
+    7,
+    NOTHING,
+);
+
+const WRAP_FAILS: Row<'static> = (0x16, &[0, 1], 4, 7, NOTHING);
+
+const WRAP_PAD_FAILS: Row<'static> = (0x18, &[0, 1], 4, 7, NOTHING);
 
 const UNWRAPPED: [u8; 32] = [
     0, 1, 1, 0, 0, 0, 0, 1, 0, 0, 0, 0, 0, 0, 0, 0, 0, 0, 0, 0, 0, 0, 0, 0, 0, 0, 0, 0, 0, 0, 0, 0,
 ];
 
-const FIRST_USES: [FirstUse; 8] = [
-    FirstUse {
-        call: 2,
-        test: 7,
-        role: USER,
-        failing: SEAL_FAILS,
-    },
-    FirstUse {
-        call: 2,
-        test: 7,
-        role: USER,
-        failing: (0x14, b"\x00\x10\x01\x00\x00\x00\x00iabc", 4, 7, NOTHING),
-    },
-    FirstUse {
-        call: 3,
-        test: 8,
-        role: USER,
-        failing: (
-            0x15,
-            b"\x00\x0c\x01\x00\x00\x00\x00iabcdefghijklmno",
-            4,
-            7,
-            NOTHING,
-        ),
-    },
-    FirstUse {
-        call: 4,
-        test: 9,
-        role: OFFICER,
-        failing: (0x16, &[0, 1], 4, 7, NOTHING),
-    },
-    FirstUse {
-        call: 5,
-        test: 10,
-        role: OFFICER,
-        failing: (0x17, &UNWRAPPED, 4, 7, NOTHING),
-    },
-    FirstUse {
-        call: 4,
-        test: 11,
-        role: OFFICER,
-        failing: (0x18, &[0, 1], 4, 7, NOTHING),
-    },
-    FirstUse {
-        call: 5,
-        test: 12,
-        role: OFFICER,
-        failing: (0x19, &UNWRAPPED, 4, 7, NOTHING),
-    },
-    FirstUse {
-        call: 6,
-        test: 13,
-        role: USER,
-        failing: (0x1a, &[0, 1, 3, 0, 0, 0, 0, 1, 16, 0], 4, 7, NOTHING),
-    },
-];
+const UNWRAP_FAILS: Row<'static> = (0x17, &UNWRAPPED, 4, 7, NOTHING);
 
-// All slots are empty.
+const UNWRAP_PAD_FAILS: Row<'static> = (0x19, &UNWRAPPED, 4, 7, NOTHING);
+
+const DERIVE_FAILS: Row<'static> = (0x1a, &[0, 1, 3, 0, 0, 0, 0, 1, 16, 0], 4, 7, NOTHING);
+
+// The test comes before the slots are looked at, which are all empty.
 #[test]
-fn tests_each_service_at_its_first_use(rt: HostRuntime) -> Result<(), Fail> {
-    for FirstUse {
-        call,
-        test,
-        role,
-        failing,
-    } in FIRST_USES {
-        let engine = Faulty {
-            call,
-            left: 0,
-            bit: 0,
-        };
-        assert!(rt;
-            is_refused_at_first_use(rt.alloc(), engine, &[role], failing, (1, test), BOTH_PASSED)?
-        );
-    }
+fn tests_encryption_at_its_first_use(rt: HostRuntime) -> Result<(), Fail> {
+    let seal = Faulty::new(2, 0, 0);
+    let seal_iv = Faulty::new(2, 0, 0);
+    let open = Faulty::new(3, 0, 0);
+    let derive = Faulty::new(6, 0, 0);
+    assert!(rt;
+        is_refused_at_first_use(rt.alloc(), seal, &[USER], SEAL_FAILS, (1, 7), BOTH_PASSED)?
+    );
+    assert!(rt;
+        is_refused_at_first_use(
+            rt.alloc(),
+            seal_iv,
+            &[USER],
+            SEAL_IV_FAILS,
+            (1, 7),
+            BOTH_PASSED
+        )?
+    );
+    assert!(rt;
+        is_refused_at_first_use(rt.alloc(), open, &[USER], OPEN_FAILS, (1, 8), BOTH_PASSED)?
+    );
+    assert!(rt;
+        is_refused_at_first_use(
+            rt.alloc(),
+            derive,
+            &[USER],
+            DERIVE_FAILS,
+            (1, 13),
+            BOTH_PASSED
+        )?
+    );
+    Ok(())
+}
+
+#[test]
+fn tests_wrapping_at_its_first_use(rt: HostRuntime) -> Result<(), Fail> {
+    let wrap = Faulty::new(4, 0, 0);
+    let wrap_pad = Faulty::new(4, 0, 0);
+    let unwrap = Faulty::new(5, 0, 0);
+    let unwrap_pad = Faulty::new(5, 0, 0);
+    assert!(rt;
+        is_refused_at_first_use(
+            rt.alloc(),
+            wrap,
+            &[OFFICER],
+            WRAP_FAILS,
+            (1, 9),
+            BOTH_PASSED
+        )?
+    );
+    assert!(rt;
+        is_refused_at_first_use(
+            rt.alloc(),
+            unwrap,
+            &[OFFICER],
+            UNWRAP_FAILS,
+            (1, 10),
+            BOTH_PASSED
+        )?
+    );
+    assert!(rt;
+        is_refused_at_first_use(
+            rt.alloc(),
+            wrap_pad,
+            &[OFFICER],
+            WRAP_PAD_FAILS,
+            (1, 11),
+            BOTH_PASSED
+        )?
+    );
+    assert!(rt;
+        is_refused_at_first_use(
+            rt.alloc(),
+            unwrap_pad,
+            &[OFFICER],
+            UNWRAP_PAD_FAILS,
+            (1, 12),
+            BOTH_PASSED
+        )?
+    );
     Ok(())
 }
