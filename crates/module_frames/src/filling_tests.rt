@@ -135,10 +135,20 @@ fn unwraps_are_read(rt: HostRuntime) {
     }
 }
 
+// A body's target and so many bytes behind it, or the whole body where it has fewer.
+fn wrapping(body: &[u8], size: u8) -> &[u8] {
+    let end = 8 + usize::from(size);
+    if end <= body.len() {
+        &body[..end]
+    } else {
+        body
+    }
+}
+
 #[test]
 fn broken_unwraps_are_refused(rt: HostRuntime) {
     // A slot too high; one slot twice; no kind; no flag; no use; and then wrong lengths.
-    let rows: [([u8; 8], usize); 13] = [
+    let rows: [([u8; 8], u8); 13] = [
         (*b"\x10\x02\x01\x00\0\0\0\x01", 24),
         (*b"\x01\x10\x01\x00\0\0\0\x01", 24),
         (*b"\x02\x02\x01\x00\0\0\0\x01", 24),
@@ -155,15 +165,20 @@ fn broken_unwraps_are_refused(rt: HostRuntime) {
     ];
     for (target, size) in rows {
         let body = with_wrapped(target);
-        assert!(rt; read_request(Unwrap, &body[..8 + size]).is_none());
-        assert!(rt; read_request(UnwrapPad, &body[..8 + size]).is_none());
+        assert!(rt; read_request(Unwrap, wrapping(&body, size)).is_none());
+        assert!(rt; read_request(UnwrapPad, wrapping(&body, size)).is_none());
     }
-    let body = with_wrapped(*b"\x01\x02\x01\x00\0\0\0\x01");
-    assert!(rt; read_request(Unwrap, &body[..7]).is_none());
-    assert!(rt; read_request(UnwrapPad, &body[..7]).is_none());
+}
+
+#[test]
+fn unwraps_of_no_key_are_refused(rt: HostRuntime) {
+    let short = b"\x01\x02\x01\x00\0\0\0";
+    assert!(rt; read_request(Unwrap, short).is_none());
+    assert!(rt; read_request(UnwrapPad, short).is_none());
     // 16 bytes wrap none without padding, and 48 wrap 40, which no key of AES has.
-    assert!(rt; read_request(Unwrap, &body[..24]).is_none());
-    assert!(rt; read_request(Unwrap, &body[..56]).is_none());
+    let body = with_wrapped(*b"\x01\x02\x01\x00\0\0\0\x01");
+    assert!(rt; read_request(Unwrap, wrapping(&body, 16)).is_none());
+    assert!(rt; read_request(Unwrap, wrapping(&body, 48)).is_none());
 }
 
 // Whether a request derives so many bytes with this label and context.
