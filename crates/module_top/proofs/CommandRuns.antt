@@ -9,7 +9,8 @@ use Rattle.module_frames.specs.ReplyFrames.{ReplyFrame}
 use Rattle.state_model.specs.MachineState.{MachineState}
 use Rattle.state_model.specs.Step.{step, reply_to}
 use Rattle.module_top.specs.Grammars.{Grammar, IsLawful}
-use Rattle.module_top.specs.Run.{Ran, run_commands, with_reply, encoded_replies}
+use Rattle.state_model.specs.Runs.{Ran, run_commands, with_reply}
+use Rattle.module_top.specs.Run.{encoded_replies}
 use Rattle.module_top.specs.Chunks.{ServerState, CommandsServed, ReplyCutOff, ChunkServed, WriteFailed}
 
 pub run_none : {V : Type 0} (calls : Calls V) (s : MachineState V) (events : List Sample) → run_commands calls s events [] ≡ record { machine = s; replies = []; left = events }

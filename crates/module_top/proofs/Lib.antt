@@ -8,3 +8,5 @@ pub mod DigestLines
 pub mod OneOutput
 pub mod RunOutcomes
 pub mod PartialWrites
+pub mod SecretStreams
+pub mod SecretOutputs

@@ -9,7 +9,8 @@ use Rattle.state_model.specs.MachineState.{MachineState, initial_state}
 use Rattle.module_top.specs.declared.serving.Ended.TheVariants as ended
 use Rattle.module_top.specs.Grammars.{Grammar, IsLawful}
 use Rattle.module_top.specs.FrameGrammar.{frame_grammar, frame_grammar_is_lawful}
-use Rattle.module_top.specs.Run.{Ran, Runs, run_commands, remainder_start, fault_or, ending_of, encoded_replies}
+use Rattle.state_model.specs.Runs.{Ran, run_commands}
+use Rattle.module_top.specs.Run.{Runs, remainder_start, fault_or, ending_of, encoded_replies}
 use Rattle.module_top.specs.declared.limits.TheConstants.{STREAM_MAX}
 use Rattle.module_top.specs.Program.{FormValue, Serve, Digest, form_of, exit_status, ServesStream, HasNoise, IsOutputOf, HasOneOutput}
 use Rattle.module_top.proofs.NamedFiles.{one_noise, one_with_image, one_with_digest}

@@ -14,7 +14,8 @@ use Rattle.module_top.specs.declared.serving.Ended.{Ended}
 use Rattle.module_top.specs.Grammars.{Grammar, fault_number, IsEndMark}
 use Rattle.module_top.specs.Decoding.{IsReady}
 use Rattle.module_top.specs.PartialWrites.{AppendsPart}
-use Rattle.module_top.specs.Run.{Ran, run_commands, encoded_replies, ending_of}
+use Rattle.state_model.specs.Runs.{Ran, run_commands}
+use Rattle.module_top.specs.Run.{encoded_replies, ending_of}
 
 -- what serving works on: the module, and what the sink gained
 pub record ServerState (V : Type 0) : Type 0 where

@@ -9,3 +9,4 @@ pub mod DigestFile
 pub mod Program
 pub mod Outcomes
 pub mod Faults
+pub mod Secrets

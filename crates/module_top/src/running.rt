@@ -4,10 +4,12 @@ ghost use Rattle.std.specs.String.{string_bytes};
 ghost use Rattle.outside.specs.Explained.{Explained};
 ghost use Rattle.outside.specs.Faults.{FaultCounted};
 ghost use Rattle.outside.specs.FilesContent.{FilesContent};
+ghost use Rattle.engine_core.specs.Calls.{IsStandard};
 ghost use Rattle.state_model.specs.ModuleView.{ModuleView};
 ghost use Rattle.state_model.specs.MachineState.{initial_state};
 ghost use Rattle.module_top.specs.FrameGrammar.{frame_grammar};
 ghost use Rattle.module_top.specs.Serving.{Serves};
+ghost use Rattle.module_top.specs.Secrets.{OutputKeepsSecrets};
 ghost use Rattle.module_top.specs.Faults.{result_status};
 ghost use Rattle.module_top.specs.Program.{Serve, Digest, form_of, exit_status, IsProgramOutput};
 ghost use Rattle.module_top.specs.Outcomes.{is_refusal, HasLongImage, HasBadDigest, IsWorkOf, IsOutcome};
@@ -184,6 +186,13 @@ pub fn run<E: Engine, F: Files, S: Source, K: Sink>(
     ensures output { (all : FilesContent) (bytes before : List ℕ) → F.content files.old ≡ Some all → S.left commands.old ≡ Some bytes →
         K.gained replies.old ≡ Some before → result ≢ 5 → result ≢ 6 → result ≢ 7 → result ≢ 8 →
         (out : List ℕ) × IsProgramOutput E.calls engine (map string_bytes words.now) all bytes result out × (K.gained replies.new ≡ Some (before ++ out)) }
+
+    // With an engine that answers as the standards say, a run of `serve` keeps its secrets: for other input that differs from this in
+    // entered parameters alone, the status is the same, and so is each reply to a command that observes nothing made from them.
+    ensures secrets { IsStandard E.calls → (all : FilesContent) (bytes before : List ℕ) → F.content files.old ≡ Some all → S.left commands.old ≡ Some bytes →
+        K.gained replies.old ≡ Some before → result ≢ 5 → result ≢ 6 → result ≢ 7 → result ≢ 8 →
+        (out : List ℕ) × (K.gained replies.new ≡ Some (before ++ out))
+        × OutputKeepsSecrets E.calls engine (map string_bytes words.now) (form_of (map string_bytes words.now)) all bytes result out }
 
     // Words that have no form are a faulty command line, and nothing else is. No file is looked at then.
     ensures usage { (result ≡ 2) ↔ (form_of (map string_bytes words.now) ≡ None) }

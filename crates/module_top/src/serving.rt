@@ -4,6 +4,7 @@ ghost use Rattle.outside.specs.Contents.{Consumes, IsAtEnd};
 ghost use Rattle.outside.specs.declared.traits.Sample.{Sample};
 ghost use Rattle.outside.specs.Faults.{FaultCounted};
 ghost use Rattle.outside.specs.Explained.{Explained};
+ghost use Rattle.engine_core.specs.Calls.{IsStandard};
 ghost use Rattle.module_frames.specs.Fragments.{new_fragment};
 ghost use Rattle.module_frames.specs.Replies.{IsCleared};
 ghost use Rattle.state_model.specs.MachineState.{MachineState};
@@ -13,6 +14,7 @@ ghost use Rattle.module_top.specs.FrameGrammar.{frame_grammar};
 ghost use Rattle.module_top.specs.Run.{ending_of};
 ghost use Rattle.module_top.specs.Chunks.{EndServed, EndWriteFailed};
 ghost use Rattle.module_top.specs.Serving.{Serves};
+ghost use Rattle.module_top.specs.Secrets.{KeepsSecrets};
 
 use crate::answering::{ChunkEnd, serve_chunk};
 use crate::codec::Codec;
@@ -149,6 +151,12 @@ pub fn serve<E: Engine, N: Noise, S: Source, K: Sink>(
     requires new { frames.old ≡ new_fragment }
     requires chunk { 0 < length chunk.old }
     ensures served { (s : MachineState E) → Represents «module».old s → Explained (N.left noise.old) (N.left noise.new) (Serves frame_grammar E.calls result (length chunk.old) s «module».new
+        (record { left = S.left commands.old; gained = K.gained replies.old })
+        (record { left = S.left commands.new; gained = K.gained replies.new })) }
+
+    // With an engine that answers as the standards say, each stream that differs from the bytes read in secrets alone would have run
+    // alike, and got equal replies to each command that observes nothing tainted.
+    ensures secrets { IsStandard E.calls → (s : MachineState E) → Represents «module».old s → Explained (N.left noise.old) (N.left noise.new) (KeepsSecrets frame_grammar E.calls result s
         (record { left = S.left commands.old; gained = K.gained replies.old })
         (record { left = S.left commands.new; gained = K.gained replies.new })) }
 

@@ -17,7 +17,7 @@ use Rattle.state_model.specs.Step.{perform}
 use Rattle.state_model.proofs.Steps.{by_request, same_request}
 
 -- what stands at each number of a set that was written
-each_written : {A : Type 0} (in_set : ℕ → Bool) (x : A) (xs : List A) (k : ℕ) → in_set k ≡ true → get_or (with_each in_set x xs) k x ≡ x
+pub each_written : {A : Type 0} (in_set : ℕ → Bool) (x : A) (xs : List A) (k : ℕ) → in_set k ≡ true → get_or (with_each in_set x xs) k x ≡ x
 each_written {A} in_set x xs k member = elim (cases_lt k (length xs)) [
   | inl within ↦ get_or-with_each in_set x xs k within ∙ ap (λ (b : Bool). cond b x (get_or xs k x)) member
   | inr past ↦

@@ -6,6 +6,7 @@ pub mod Management
 pub mod Cryptographic
 pub mod Performs
 pub mod Step
+pub mod Runs
 pub mod Laws
 pub mod Meaning
 pub mod Completeness

@@ -3,7 +3,9 @@ use Rattle.std.specs.Prelude.{◌↔◌, map}
 use Rattle.std.specs.String.{string_bytes}
 use Rattle.module_top.specs.Program.{form_of, IsProgramOutput}
 use Rattle.module_top.specs.Outcomes.{HasLongImage, HasBadDigest}
+use Rattle.module_top.specs.Secrets.{OutputKeepsSecrets}
 use Rattle.module_top.proofs.RunOutcomes.{program_output}
+use Rattle.module_top.proofs.SecretOutputs.{output_keeps}
 use Rattle.module_top.proofs.running.run.Goals as goal
 
 pub returns-clause-output : goal.returns-clause-output
@@ -25,3 +27,13 @@ returns-clause-bad_digest g c =
 
 pub returns-clause-no_file : goal.returns-clause-no_file
 returns-clause-no_file g c two = c.perform.ensures.no_file (c.perform.ensures.outcome.usage.0 (sym c.status_of.ensures ∙ two))
+
+pub returns-clause-secrets : goal.returns-clause-secrets
+returns-clause-secrets g c plain all bytes before files left gained =
+    let words : List (List ℕ) = map string_bytes c.args.words.now in
+    let Kept : ℕ → Type 0 = λ status. status ≢ 5 → status ≢ 6 → status ≢ 7 → status ≢ 8 →
+    (out : List ℕ) × (g.K.Sink.gained c.perform.new.replies ≡ Some (before ++ out)) × OutputKeepsSecrets g.E.Engine.calls c.args.engine words (form_of words) all bytes status out in
+    subst Kept (sym c.status_of.ensures)
+    (λ no_read no_write memory no_file.
+    let (out, output, written) = program_output g.E.Engine.calls c.args.engine all _ _ _ _ bytes before (rw files at c.perform.ensures.outcome) (rw (left, gained) refl) (λ same. ap g.K.Sink.gained same) no_read no_write memory no_file in
+    (out, written, output_keeps g.E.Engine.calls plain c.args.engine words all bytes _ out output))

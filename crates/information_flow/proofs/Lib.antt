@@ -1,0 +1,11 @@
+pub mod Agreeing
+pub mod Frames
+pub mod Services
+pub mod Told
+pub mod Entering
+pub mod Emptying
+pub mod Stepping
+pub mod Running
+pub mod Tainting
+pub mod Admitting
+pub mod Trees
