@@ -1,12 +1,11 @@
 -- The output of a run keeps its secrets.
 use Rattle.std.proofs.Common.{◌≡◌, ◌≢◌, ◌≤◌, ℕ, List, Option, Some, None, length, true, false, inl, inr, refl, sym, ap, subst, ◌∙◌}
 use Rattle.std.specs.Prelude.{MatchOption}
-use Rattle.outside.specs.FilesContent.{FilesContent, HasFile, HasFileAbove}
+use Rattle.outside.specs.FilesContent.{FilesContent, HasFile}
 use Rattle.outside.specs.declared.traits.Sample.{Sample}
 use Rattle.engine_core.specs.Calls.{Calls, IsStandard}
 use Rattle.state_model.specs.MachineState.{MachineState, initial_state}
-use Rattle.information_flow.specs.Variants.{CommandPair}
-use Rattle.module_top.specs.declared.limits.TheConstants.{STREAM_MAX, LARGEST_IMAGE}
+use Rattle.module_top.specs.declared.limits.TheConstants.{LARGEST_IMAGE}
 use Rattle.module_top.specs.DigestFile.{digest_of}
 use Rattle.module_top.specs.FrameGrammar.{frame_grammar}
 use Rattle.module_top.specs.Outcomes.{is_refusal}
@@ -51,8 +50,8 @@ output_keeps {V} calls plain engine words files bytes status out output = by_for
         output_of_other other other_out serves =
             let Out : Option FormValue → Type 0 = λ of. IsOutputOf calls engine of files other status other_out in
             let By : Option (List ℕ) → Type 0 = λ read. MatchOption read (IsRefused 11 status other_out)
-                (λ d. (e : List Sample) × HasNoise files noise_name e × ServesStream frame_grammar calls (initial_state engine image d) e other status other_out) in
-            subst Out (sym is) (inr (image, has_image, fits, text, has_text, subst By (sym spelled) (events, has_noise, serves)))
+            (λ d. (e : List Sample) × HasNoise files noise_name e × ServesStream frame_grammar calls (initial_state engine image d) e other status other_out) in
+            subst Out (sym is) (inr (image, has_image, fits, (text, has_text, subst By (sym spelled) (events, has_noise, serves))))
 
     by_digest : (image_name digest_name noise_name : List ℕ) → form_of words ≡ Some (Serve image_name digest_name noise_name) → (image text : List ℕ) → HasFile files image_name image → length image ≤ LARGEST_IMAGE
         → HasFile files digest_name text → (read : Option (List ℕ)) → digest_of text ≡ read
@@ -69,6 +68,6 @@ output_keeps {V} calls plain engine words files bytes status out output = by_for
     by_form (Some (Serve image_name digest_name noise_name)) is output = λ done. elim output [
       | inl long ↦ absurd (not_refused 9 status long.1.0 refl done)
       | inr loaded ↦
-          let (image, has_image, fits, text, has_text, follows) = loaded in
-          by_digest image_name digest_name noise_name is image text has_image fits has_text (digest_of text) refl follows done
+          let (image, has_image, fits, found) = loaded in
+          by_digest image_name digest_name noise_name is image found.0 has_image fits found.1 (digest_of found.0) refl found.2 done
     ]

@@ -1,19 +1,19 @@
 -- Streams that differ in secrets alone run alike.
-use Rattle.std.proofs.Common.{◌≡◌, ◌≢◌, ◌<◌, ◌≤◌, ◌-◌, ◌+◌, ◌++◌, ℕ, List, [], ◌∷◌, Option, Some, None, length, take, inl, inr, refl, sym, ap, subst, ◌∙◌, arith, length-append}
+use Rattle.std.proofs.Common.{◌≡◌, ◌<◌, ◌≤◌, ◌-◌, ◌+◌, ◌++◌, ℕ, List, [], ◌∷◌, Option, length, take, inl, inr, refl, sym, ap, subst, ◌∙◌, arith, length-append}
 use Rattle.std.specs.Prelude.{min}
 use Rattle.std.specs.List.{flat_map}
 use Rattle.std.specs.Int.{to_be_bytes, w32}
 use Rattle.std.proofs.lemmas.Bool.{cases_lt}
-use Rattle.std.proofs.lemmas.List.{length-take, length-take-le, take_all}
+use Rattle.std.proofs.lemmas.List.{length-take, take_all}
 use Rattle.outside.specs.declared.traits.Sample.{Sample}
 use Rattle.engine_core.specs.Calls.{Calls, IsStandard}
 use Rattle.module_frames.specs.CommandFrames.{CommandFrame, command_header, command_encoding, version_of, sequence_bytes}
 use Rattle.module_frames.specs.ReplyFrames.{ReplyFrame}
-use Rattle.state_model.specs.MachineState.{MachineState, initial_state}
+use Rattle.state_model.specs.MachineState.{MachineState}
 use Rattle.state_model.specs.ModuleView.{ModuleView}
 use Rattle.state_model.specs.Runs.{Ran, run_commands}
 use Rattle.state_model.specs.Step.{step}
-use Rattle.information_flow.specs.Tainted.{Tainted, untainted, EqualOutside}
+use Rattle.information_flow.specs.Tainted.{Tainted, untainted}
 use Rattle.information_flow.specs.Taint.{taint_after}
 use Rattle.information_flow.specs.Variants.{CommandPair, sent, sent_instead, IsSecretVariant, AreSecretVariants}
 use Rattle.information_flow.specs.Flow.{SecretsStayInside, RunsAgree}
@@ -28,7 +28,7 @@ use Rattle.module_top.specs.FrameGrammar.{frame_grammar, frame_grammar_is_lawful
 use Rattle.module_top.specs.Grammars.{Grammar, IsLawful, IsParse}
 use Rattle.module_top.specs.Program.{exit_status, ServesStream}
 use Rattle.module_top.specs.Run.{Runs, remainder_start, fault_or, ending_of, encoded_replies}
-use Rattle.module_top.specs.Secrets.{AreVariantStreams, RunsAlike, VariantsRunAlike, KeepsSecrets}
+use Rattle.module_top.specs.Secrets.{AreVariantStreams, VariantsRunAlike, KeepsSecrets}
 use Rattle.module_top.specs.Serving.{Streams, Serves, Answered}
 
 -- a run, by its parts
@@ -66,7 +66,7 @@ serving_keeps grammar calls lawful plain ended.WriteFault chunk s m before after
 serving_keeps grammar calls lawful plain ended.End chunk s m before after events left sixteen (taken, read, remainder, consumes, answered, ends) =
     (taken, read, remainder, answered.replies, consumes, inr ends.1, answered.gained, answered_alike grammar calls lawful plain s events left read remainder m before after sixteen answered)
 serving_keeps grammar calls lawful plain (ended.BadFrame number) chunk s m before after events left sixteen (taken, read, remainder, consumes, answered, ends) =
-    (taken, read, remainder, answered.replies, consumes, ends.2.0, answered.gained, answered_alike grammar calls lawful plain s events left read remainder m before after sixteen answered)
+    (taken, read, remainder, answered.replies, consumes, ends.2, answered.gained, answered_alike grammar calls lawful plain s events left read remainder m before after sixteen answered)
 serving_keeps grammar calls lawful plain ended.Truncated chunk s m before after events left sixteen (taken, read, remainder, consumes, answered, ends) =
     (taken, read, remainder, answered.replies, consumes, inr ends.1, answered.gained, answered_alike grammar calls lawful plain s events left read remainder m before after sixteen answered)
 serving_keeps grammar calls lawful plain ended.ReadFault chunk s m before after events left sixteen (taken, read, remainder, consumes, answered, ends) =

@@ -1,5 +1,5 @@
 -- Two streams that differ in secrets alone, and what the run over the other one would have answered.
-use Rattle.std.specs.Prelude.{◌≡◌, ◌++◌, ◌⊎◌, ℕ, List, Option, Some, None, length, take, MatchOption, false}
+use Rattle.std.specs.Prelude.{◌≡◌, ℕ, List, Option, Some, None, take, false}
 use Rattle.outside.specs.Contents.{Consumes, Appends}
 use Rattle.outside.specs.FilesContent.{FilesContent, HasFile}
 use Rattle.outside.specs.declared.traits.Sample.{Sample}
@@ -10,14 +10,14 @@ use Rattle.information_flow.specs.Tainted.{untainted}
 use Rattle.information_flow.specs.Variants.{CommandPair, sent, sent_instead, AreSecretVariants}
 use Rattle.information_flow.specs.Flow.{RunsAgree}
 use Rattle.information_flow.specs.OneCommand.{AllCommitInto, TreeHoldsTaint}
-use Rattle.module_top.specs.declared.limits.TheConstants.{STREAM_MAX, LARGEST_IMAGE}
+use Rattle.module_top.specs.declared.limits.TheConstants.{STREAM_MAX}
 use Rattle.module_top.specs.declared.serving.Ended.{Ended}
 use Rattle.module_top.specs.declared.serving.Ended.TheVariants as ended
 use Rattle.module_top.specs.DigestFile.{digest_of}
 use Rattle.module_top.specs.FrameGrammar.{frame_grammar}
 use Rattle.module_top.specs.Grammars.{Grammar, IsParse}
 use Rattle.module_top.specs.Outcomes.{is_refusal}
-use Rattle.module_top.specs.Program.{FormValue, Serve, Digest, form_of, HasNoise, IsProgramOutput}
+use Rattle.module_top.specs.Program.{FormValue, Serve, Digest, HasNoise, IsProgramOutput}
 use Rattle.module_top.specs.Run.{Runs, encoded_replies}
 use Rattle.module_top.specs.Serving.{Streams, IsReading}
 
