@@ -38,3 +38,5 @@ pub mod SealingMeanings
 pub mod FillingMeanings
 pub mod Meanings
 pub mod Completed
+pub mod Residues
+pub mod Closings

@@ -15,3 +15,5 @@ pub mod Represents
 pub mod ModuleInvariant
 pub mod Permission
 pub mod SelfTesting
+pub mod Residue
+pub mod Closing

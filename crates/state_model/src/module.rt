@@ -28,6 +28,8 @@ ghost use Rattle.state_model.specs.SlotBlock.{header_block, slot_block};
 ghost use Rattle.state_model.specs.Permission.{IsPermittedIn};
 ghost use Rattle.state_model.specs.Represents.{Represents, IsRepresented, IsServiceResult, Replies};
 ghost use Rattle.state_model.specs.Meaning.{AnswersByTheStandards, held_in};
+ghost use Rattle.state_model.specs.Residue.{IsClean};
+ghost use Rattle.state_model.specs.Closing.{IsShut};
 
 use crate::commit::commit;
 use crate::cryptographic::{note_link, perform};
@@ -44,8 +46,8 @@ use service_table::{Failure, Service, State, Status, is_cryptographic, permitted
 use std::alloc::{AllocError, Global};
 use std::marker::Model;
 
-/// A cryptographic module over an engine. What it keeps is behind the boundary: contracts see it by its model.
-#[derive(Drop)]
+/// A cryptographic module over an engine. What it keeps is behind the boundary: contracts see it by its model. It can't be let go, but only
+/// closed, and so not before it was shut.
 pub struct Module<E: Engine> {
     public: PublicState,
     tests_passed: Tested,
@@ -143,14 +145,16 @@ fn settled(public: PublicState, tests_passed: Tested) -> (PublicState, Tested)
 
 impl<E: Engine> Module<E> {
     /// A module that isn't powered, with sixteen empty slots. The image is the one that its self-tests check, and the digest is the
-    /// image's HMAC-SHA-256 under the image key.
+    /// image's HMAC-SHA-256 under the image key. Where no memory is found, engine and image are dropped.
     pub fn open(
         alloc: Global,
         engine: E,
         image: Vec<u8>,
         digest: [u8; 32],
     ) -> Result<Module<E>, AllocError>
-        ensures { IfOk result (λ opened. Represents opened (initial_state engine image.items digest)) }
+        ensures represents { IfOk result (λ opened. Represents opened (initial_state engine image.items digest)) }
+        ensures shut { IfOk result IsShut }
+        ensures clean { IfOk result IsClean }
     {
         let parts = Parts::new(alloc, engine)?;
         Ok(Module {
@@ -161,6 +165,33 @@ impl<E: Engine> Module<E> {
             image,
             digest,
         })
+    }
+
+    /// Empties the module, whatever it held: it is as `open` makes it of its engine, its image and its digest. It isn't powered, all slots and
+    /// rows are empty, nothing is being entered, the generator has no seed, no test or sample counts, and the sequence number 1 is expected.
+    pub fn shut(&mut self)
+        ensures represents { Represents self.new (initial_state self.old.engine self.old.image self.old.digest) }
+        ensures shut { IsShut self.new }
+        ensures clean { IsClean self.new }
+    {
+        // Opened, so that the module's rules are known of what it finds.
+        let _ = &self.public;
+        self.reset();
+        self.public = PublicState::unpowered();
+    }
+
+    /// Gives the module's memory back. The module is as `shut` leaves it, and `open` too.
+    pub fn close(self)
+        requires { IsShut self }
+    {
+        let Module {
+            public: _,
+            tests_passed: _,
+            parts: _,
+            entry: _,
+            image: _,
+            digest: _,
+        } = self;
     }
 
     /// The state of the module.
@@ -497,6 +528,8 @@ impl<E: Engine> Module<E> {
         // That the noise failed is told only where its count of faults rose.
         ensures noise_failed { reply.new.status ≡ Status.NoiseFault → reply.new.code ≡ failure_code failures.NoiseFailed → FaultCounted (N.faults noise.old) (N.faults noise.new) }
         ensures represented { IsRepresented self.new }
+        // Memory that holds nothing is zero.
+        ensures clean { IsClean self.new }
         // With a standard engine, what a cryptographic service gives or fills a slot with is the standard's value, with any noise.
         ensures meaning { IsStandard E.calls → AnswersByTheStandards command.now (held_in self.old) (held_in self.new)
             (record { status = reply.new.status; payload = reply.new.payload.bytes }) }
@@ -526,18 +559,25 @@ mod tests {
     use std::test::Fail;
 
     #[test]
-    fn opens_and_answers(rt: HostRuntime) -> Result<(), Fail> {
-        let mut module = Module::open(rt.alloc(), Shipped::new(), Vec::new(rt.alloc()), [0; 32])?;
+    fn opens_answers_and_closes(rt: HostRuntime) -> Result<(), Fail> {
         let mut noise = MemNoise::new(Vec::new(rt.alloc()));
         let mut command = Command::new(rt.alloc())?;
         let mut reply = Reply::new(rt.alloc())?;
-        assert!(rt; module.state() == State::Off);
+        let mut module = Module::open(rt.alloc(), Shipped::new(), Vec::new(rt.alloc()), [0; 32])?;
+        let opened = module.state();
         command.set(0x01, &[0, 0, 0, 3]);
         module.command(&command, &mut noise, &mut reply);
-        assert!(rt; reply.status == Status::Ok);
-        assert!(rt; module.state() == State::Init);
+        let powered = module.state();
         command.set(0x04, &[]);
         module.command(&command, &mut noise, &mut reply);
+        module.shut();
+        let shut = module.state();
+        module.close();
+        assert_eq!(rt;
+            [opened, powered, shut],
+            [State::Off, State::Init, State::Off]
+        );
+        assert!(rt; reply.status == Status::Ok);
         assert_eq!(rt; reply.block, [0, 0, 0, 0, 0, 0, 0, 3, 0, 0, 0, 0]);
         Ok(())
     }

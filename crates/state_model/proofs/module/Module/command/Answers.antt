@@ -7,6 +7,7 @@ use Rattle.state_model.specs.Step.{step}
 use Rattle.state_model.proofs.Lawfulness.{told_lawful}
 use Rattle.state_model.proofs.Meanings.{answer_means}
 use Rattle.state_model.proofs.Replying.{replied}
+use Rattle.state_model.proofs.Residues.{clean_of}
 use Rattle.state_model.proofs.module.Module.command.Goals as goal
 
 pub returns-clause-step : goal.returns-clause-step
@@ -31,6 +32,9 @@ pub returns-clause-represented : goal.returns-clause-represented
 returns-clause-represented g c =
     let Held : ModuleView g.row.E.Denot → Type 0 = λ m. IsRepresented m in
     subst Held c.self-2.view_is c.self-2.invariant
+
+pub returns-clause-clean : goal.returns-clause-clean
+returns-clause-clean g c = clean_of (returns-clause-represented g c)
 
 pub returns-clause-meaning : goal.returns-clause-meaning
 returns-clause-meaning g c standard =
