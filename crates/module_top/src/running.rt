@@ -24,7 +24,8 @@ use outside::{Files, Noise, Sink, Source};
 use state_model::Module;
 use std::alloc::{AllocError, Global};
 
-// Takes all the memory, and then serves. Without memory nothing is read or written.
+// Takes all the memory, the module's last, and then serves; however that ends, the module is shut and closed. Without memory nothing is
+// read or written.
 fn open_and_serve<E: Engine, N: Noise, S: Source, K: Sink>(
     alloc: Global,
     engine: E,
@@ -44,11 +45,11 @@ fn open_and_serve<E: Engine, N: Noise, S: Source, K: Sink>(
     ensures write_fault { IfOk result (λ ending. ending ≡ Ended.WriteFault → FaultCounted (K.faults replies.old) (K.faults replies.new)) }
     ensures writes_unchanged { IfOk result (λ ending. ending ≢ Ended.WriteFault → K.faults replies.new ≡ K.faults replies.old) }
 {
-    let mut module = Module::open(alloc, engine, image, digest)?;
     let mut frames = Frames::new(alloc)?;
     let mut reply = Reply::new(alloc)?;
     let mut chunk = vec![in alloc; 0; CHUNK]?;
-    Ok(serve(
+    let mut module = Module::open(alloc, engine, image, digest)?;
+    let ended = serve(
         &mut module,
         noise,
         commands,
@@ -56,7 +57,10 @@ fn open_and_serve<E: Engine, N: Noise, S: Source, K: Sink>(
         &mut frames,
         &mut reply,
         &mut chunk,
-    ))
+    );
+    module.shut();
+    module.close();
+    Ok(ended)
 }
 
 // The fault for how serving ended, where that wasn't at the end of the input.

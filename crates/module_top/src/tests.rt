@@ -15,14 +15,14 @@ use std::test::Fail;
 fn ending(alloc: Global, bytes: &[u8], step: usize) -> Result<Ended, Fail>
     requires { 1 ≤ step }
 {
-    let mut module = Module::open(alloc, Shipped::new(), Vec::new(alloc), [0; 32])?;
     let mut noise = MemNoise::new(Vec::new(alloc));
     let mut frames = Frames::new(alloc)?;
     let mut reply = Reply::new(alloc)?;
     let mut chunk = vec![in alloc; 0; 100]?;
     let mut commands = MemSource::new(bytes.to_vec(alloc)?, step, Vec::new(alloc));
     let mut replies = MemSink::new(alloc, 2_000, 24, Vec::new(alloc))?;
-    Ok(serve(
+    let mut module = Module::open(alloc, Shipped::new(), Vec::new(alloc), [0; 32])?;
+    let ended = serve(
         &mut module,
         &mut noise,
         &mut commands,
@@ -30,7 +30,10 @@ fn ending(alloc: Global, bytes: &[u8], step: usize) -> Result<Ended, Fail>
         &mut frames,
         &mut reply,
         &mut chunk,
-    ))
+    );
+    module.shut();
+    module.close();
+    Ok(ended)
 }
 
 // Streams with a fault, and its offset.
