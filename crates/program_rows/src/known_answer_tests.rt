@@ -3,7 +3,9 @@ use crate::runs::{
     Dialogue, NO_BLOCK, NOTHING, ONE_PASS, Row, TWO_PASSES, outcome_over, play, play_with_code,
 };
 use crate::service_rows::{HASH_256_ABC, HASH_256_ABC_TURNED};
-use crate::service_tests::{OFFICER, POWER_ON, REQUEST_TESTS, RESET, TESTED, UP, USER};
+use crate::service_tests::{
+    POWER_ON, REQUEST_TESTS, TESTED, USER, officer_rows, reset_rows, up_rows, user_rows,
+};
 use engine_core::Faulty;
 use std::alloc::Global;
 use std::test::Fail;
@@ -12,7 +14,7 @@ use std::test::Fail;
 const STEP_FAILS: Row<'static> = (0x02, &[], 4, 7, NOTHING);
 
 // Once a test failed nothing gives data or changes keys, and no test is made.
-const IN_ERROR: [Row<'static>; 15] = [
+static IN_ERROR: [Row<'static>; 15] = [
     (0x01, &[0, 0, 0, 3], 2, 7, NOTHING),
     (0x02, &[], 2, 7, NOTHING),
     (0x03, &[], 2, 7, NOTHING),
@@ -29,6 +31,10 @@ const IN_ERROR: [Row<'static>; 15] = [
     (0x11, b"\x03\x01\x20abc", 2, 7, NOTHING),
     (0x12, b"\x03\x01\x01\x00abc", 2, 7, NOTHING),
 ];
+
+fn in_error_rows() -> &'static [Row<'static>] {
+    &IN_ERROR
+}
 
 // ShowStatus of the state Error: those that passed, the period and the count.
 const NONE_PASSED: Row<'static> = (0x04, &[], 0, 7, NOTHING);
@@ -68,12 +74,34 @@ fn fail(
 ) -> Result<(), Fail> {
     play(dialogue, before)?;
     play_with_code(dialogue, &[failing], code)?;
-    play_with_code(dialogue, &IN_ERROR, code)?;
+    play_with_code(dialogue, in_error_rows(), code)?;
     play_with_code(dialogue, &[shown], code)?;
-    play(dialogue, &[RESET])
+    play(dialogue, reset_rows())
 }
 
-const TWO_STEPS: [Row<'static>; 3] = [REQUEST_TESTS, TESTED, TESTED];
+static POWERED_ON: [Row<'static>; 1] = [POWER_ON];
+
+fn power_on_rows() -> &'static [Row<'static>] {
+    &POWERED_ON
+}
+
+static TESTS_ASKED: [Row<'static>; 1] = [REQUEST_TESTS];
+
+fn request_rows() -> &'static [Row<'static>] {
+    &TESTS_ASKED
+}
+
+static ONE_STEP: [Row<'static>; 2] = [REQUEST_TESTS, TESTED];
+
+fn one_step_rows() -> &'static [Row<'static>] {
+    &ONE_STEP
+}
+
+static TWO_STEPS: [Row<'static>; 3] = [REQUEST_TESTS, TESTED, TESTED];
+
+fn two_steps_rows() -> &'static [Row<'static>] {
+    &TWO_STEPS
+}
 
 // Whether a test that is due fails over this engine, and again where tests are asked for after a Reset. No noise is taken.
 fn is_refused(
@@ -84,7 +112,7 @@ fn is_refused(
     shown: Row,
 ) -> Result<bool, Fail> {
     let mut dialogue = Dialogue::new(alloc);
-    play(&mut dialogue, &[POWER_ON])?;
+    play(&mut dialogue, power_on_rows())?;
     fail(&mut dialogue, before, STEP_FAILS, code, shown)?;
     fail(&mut dialogue, before, STEP_FAILS, code, shown)?;
     let (status, replies) = outcome_over(alloc, engine, 0, &dialogue.stream, 9)?;
@@ -98,23 +126,36 @@ fn fails_a_test_that_is_due(rt: HostRuntime) -> Result<(), Fail> {
     let instantiate = Faulty::new(7, 0, 3);
     let reseed = Faulty::new(8, 0, 3);
     let generate = Faulty::new(9, 0, 3);
-    assert!(rt; is_refused(rt.alloc(), mac, &[REQUEST_TESTS], (1, 4), NONE_PASSED)?);
-    assert!(rt; is_refused(rt.alloc(), instantiate, &TWO_STEPS, (1, 14), MAC_PASSED)?);
-    assert!(rt; is_refused(rt.alloc(), reseed, &TWO_STEPS, (1, 14), MAC_PASSED)?);
-    assert!(rt; is_refused(rt.alloc(), generate, &TWO_STEPS, (1, 14), MAC_PASSED)?);
+    assert!(rt; is_refused(rt.alloc(), mac, request_rows(), (1, 4), NONE_PASSED)?);
+    assert!(rt;
+        is_refused(
+            rt.alloc(),
+            instantiate,
+            two_steps_rows(),
+            (1, 14),
+            MAC_PASSED
+        )?
+    );
+    assert!(rt; is_refused(rt.alloc(), reseed, two_steps_rows(), (1, 14), MAC_PASSED)?);
+    assert!(rt; is_refused(rt.alloc(), generate, two_steps_rows(), (1, 14), MAC_PASSED)?);
     Ok(())
 }
 
 // The image is tested with the engine's HMAC, which fails its own test the next time.
 #[test]
 fn fails_the_image_by_its_engine(rt: HostRuntime) -> Result<(), Fail> {
-    let before = [REQUEST_TESTS, TESTED];
     let mut dialogue = Dialogue::new(rt.alloc());
-    play(&mut dialogue, &[POWER_ON])?;
-    fail(&mut dialogue, &before, STEP_FAILS, (2, 0), MAC_PASSED)?;
+    play(&mut dialogue, power_on_rows())?;
     fail(
         &mut dialogue,
-        &[REQUEST_TESTS],
+        one_step_rows(),
+        STEP_FAILS,
+        (2, 0),
+        MAC_PASSED,
+    )?;
+    fail(
+        &mut dialogue,
+        request_rows(),
         STEP_FAILS,
         (1, 4),
         NONE_PASSED,
@@ -132,8 +173,31 @@ const HASH_ABC: Row<'static> = (0x10, b"\x01abc", 0, 5, (1, NO_BLOCK, &HASH_256_
 
 const HASH_ABC_TURNED: Row<'static> = (0x10, b"\x01abc", 0, 5, (1, NO_BLOCK, &HASH_256_ABC_TURNED));
 
+static HASHED_TWICE: [Row<'static>; 4] = [USER, HASH_ABC, HASH_ABC, HASH_ABC_TURNED];
+
+fn hashed_rows() -> &'static [Row<'static>] {
+    &HASHED_TWICE
+}
+
+static HASHED_ONCE: [Row<'static>; 1] = [HASH_ABC];
+
+fn once_hashed_rows() -> &'static [Row<'static>] {
+    &HASHED_ONCE
+}
+
+static BACK_TO_USER: [Row<'static>; 4] = [
+    REQUEST_TESTS,
+    TESTED,
+    TESTED,
+    (0x02, &[], 0, 5, NOTHING),
+];
+
+fn back_rows() -> &'static [Row<'static>] {
+    &BACK_TO_USER
+}
+
 // From Off to Approved with period 1.
-const UP_1: [Row<'static>; 6] = [
+static UP_1: [Row<'static>; 6] = [
     (0x01, &[0, 0, 0, 1], 0, 1, NOTHING),
     REQUEST_TESTS,
     TESTED,
@@ -141,6 +205,10 @@ const UP_1: [Row<'static>; 6] = [
     (0x02, &[], 0, 3, NOTHING),
     USER,
 ];
+
+fn up_1_rows() -> &'static [Row<'static>] {
+    &UP_1
+}
 
 const SEAL_FAILS: Row<'static> = (0x13, b"\x00\x10\x00\x00\x00\x00abc", 4, 7, NOTHING);
 
@@ -152,7 +220,7 @@ fn is_refused_at_end_of_period(
     code: (u8, u8),
 ) -> Result<bool, Fail> {
     let mut dialogue = Dialogue::new(alloc);
-    fail(&mut dialogue, &UP_1, failing, code, ONE_COUNTED)?;
+    fail(&mut dialogue, up_1_rows(), failing, code, ONE_COUNTED)?;
     let (status, replies) = outcome_over(alloc, engine, ONE_PASS, &dialogue.stream, 7)?;
     Ok(status == 0 && replies.bytes() == dialogue.want.as_slice())
 }
@@ -171,10 +239,9 @@ fn fails_a_first_use(rt: HostRuntime) -> Result<(), Fail> {
 #[test]
 fn tests_each_algorithm_once(rt: HostRuntime) -> Result<(), Fail> {
     let mut dialogue = Dialogue::new(rt.alloc());
-    play(&mut dialogue, &UP)?;
-    play(&mut dialogue, &[USER, HASH_ABC, HASH_ABC, HASH_ABC_TURNED])?;
-    let back = [REQUEST_TESTS, TESTED, TESTED, (0x02, &[], 0, 5, NOTHING)];
-    fail(&mut dialogue, &back, HASH_FAILS, (1, 1), BOTH_PASSED)?;
+    play(&mut dialogue, up_rows())?;
+    play(&mut dialogue, hashed_rows())?;
+    fail(&mut dialogue, back_rows(), HASH_FAILS, (1, 1), BOTH_PASSED)?;
     let engine = Faulty::new(0, 3, 0);
     let (status, replies) = outcome_over(rt.alloc(), engine, TWO_PASSES, &dialogue.stream, 7)?;
     assert_eq!(rt; status, 0);
@@ -199,7 +266,11 @@ const HMAC_384: Row<'static> = (0x11, b"\x03\x02\x30abc", 4, 7, NOTHING);
 const HMAC_512: Row<'static> = (0x12, b"\x03\x03\x01\x00abc", 4, 7, NOTHING);
 
 // The slot is empty, and the test of HMAC-SHA-256 passed already: nothing fails.
-const EMPTY_SLOT: [Row<'static>; 2] = [USER, (0x11, b"\x03\x01\x20abc", 6, 5, NOTHING)];
+static EMPTY_SLOT: [Row<'static>; 2] = [USER, (0x11, b"\x03\x01\x20abc", 6, 5, NOTHING)];
+
+fn empty_slot_rows() -> &'static [Row<'static>] {
+    &EMPTY_SLOT
+}
 
 // Whether the first use of an algorithm fails over this engine, after these rows.
 fn is_refused_at_first_use(
@@ -211,8 +282,8 @@ fn is_refused_at_first_use(
     shown: Row,
 ) -> Result<bool, Fail> {
     let mut dialogue = Dialogue::new(alloc);
-    play(&mut dialogue, &UP)?;
-    play(&mut dialogue, &EMPTY_SLOT)?;
+    play(&mut dialogue, up_rows())?;
+    play(&mut dialogue, empty_slot_rows())?;
     fail(&mut dialogue, before, failing, code, shown)?;
     let (status, replies) = outcome_over(alloc, engine, ONE_PASS, &dialogue.stream, 7)?;
     Ok(status == 0 && replies.bytes() == dialogue.want.as_slice())
@@ -223,12 +294,25 @@ fn is_refused_at_first_use(
 fn tests_another_algorithm_at_its_own_first_use(rt: HostRuntime) -> Result<(), Fail> {
     let digest = Faulty::new(0, 2, 0);
     let mac = Faulty::new(1, 2, 0);
-    let hashed = [HASH_ABC];
     assert!(rt;
-        is_refused_at_first_use(rt.alloc(), digest, &hashed, SHA_384, (1, 2), HASH_PASSED)?
+        is_refused_at_first_use(
+            rt.alloc(),
+            digest,
+            once_hashed_rows(),
+            SHA_384,
+            (1, 2),
+            HASH_PASSED
+        )?
     );
     assert!(rt;
-        is_refused_at_first_use(rt.alloc(), digest, &hashed, SHA_512, (1, 3), HASH_PASSED)?
+        is_refused_at_first_use(
+            rt.alloc(),
+            digest,
+            once_hashed_rows(),
+            SHA_512,
+            (1, 3),
+            HASH_PASSED
+        )?
     );
     assert!(rt; is_refused_at_first_use(rt.alloc(), mac, &[], HMAC_384, (1, 5), BOTH_PASSED)?);
     assert!(rt; is_refused_at_first_use(rt.alloc(), mac, &[], HMAC_512, (1, 6), BOTH_PASSED)?);
@@ -267,26 +351,40 @@ fn tests_encryption_at_its_first_use(rt: HostRuntime) -> Result<(), Fail> {
     let open = Faulty::new(3, 0, 0);
     let derive = Faulty::new(6, 0, 0);
     assert!(rt;
-        is_refused_at_first_use(rt.alloc(), seal, &[USER], SEAL_FAILS, (1, 7), BOTH_PASSED)?
+        is_refused_at_first_use(
+            rt.alloc(),
+            seal,
+            user_rows(),
+            SEAL_FAILS,
+            (1, 7),
+            BOTH_PASSED
+        )?
     );
     assert!(rt;
         is_refused_at_first_use(
             rt.alloc(),
             seal_iv,
-            &[USER],
+            user_rows(),
             SEAL_IV_FAILS,
             (1, 7),
             BOTH_PASSED
         )?
     );
     assert!(rt;
-        is_refused_at_first_use(rt.alloc(), open, &[USER], OPEN_FAILS, (1, 8), BOTH_PASSED)?
+        is_refused_at_first_use(
+            rt.alloc(),
+            open,
+            user_rows(),
+            OPEN_FAILS,
+            (1, 8),
+            BOTH_PASSED
+        )?
     );
     assert!(rt;
         is_refused_at_first_use(
             rt.alloc(),
             derive,
-            &[USER],
+            user_rows(),
             DERIVE_FAILS,
             (1, 13),
             BOTH_PASSED
@@ -305,7 +403,7 @@ fn tests_wrapping_at_its_first_use(rt: HostRuntime) -> Result<(), Fail> {
         is_refused_at_first_use(
             rt.alloc(),
             wrap,
-            &[OFFICER],
+            officer_rows(),
             WRAP_FAILS,
             (1, 9),
             BOTH_PASSED
@@ -315,7 +413,7 @@ fn tests_wrapping_at_its_first_use(rt: HostRuntime) -> Result<(), Fail> {
         is_refused_at_first_use(
             rt.alloc(),
             unwrap,
-            &[OFFICER],
+            officer_rows(),
             UNWRAP_FAILS,
             (1, 10),
             BOTH_PASSED
@@ -325,7 +423,7 @@ fn tests_wrapping_at_its_first_use(rt: HostRuntime) -> Result<(), Fail> {
         is_refused_at_first_use(
             rt.alloc(),
             wrap_pad,
-            &[OFFICER],
+            officer_rows(),
             WRAP_PAD_FAILS,
             (1, 11),
             BOTH_PASSED
@@ -335,7 +433,7 @@ fn tests_wrapping_at_its_first_use(rt: HostRuntime) -> Result<(), Fail> {
         is_refused_at_first_use(
             rt.alloc(),
             unwrap_pad,
-            &[OFFICER],
+            officer_rows(),
             UNWRAP_PAD_FAILS,
             (1, 12),
             BOTH_PASSED

@@ -3,7 +3,7 @@ use crate::runs::outcome;
 use std::test::Fail;
 
 // Each command, and its reply.
-const NUMBERED: [(&[u8], &[u8]); 18] = [
+static NUMBERED: [(&[u8], &[u8]); 18] = [
     // ShowStatus with the number that is expected first.
     (
         b"\xc5\x02\x04\0\0\0\0\0\0\0\0\x01",
@@ -86,11 +86,15 @@ const NUMBERED: [(&[u8], &[u8]); 18] = [
     ),
 ];
 
+fn numbered_rows() -> &'static [(&'static [u8], &'static [u8])] {
+    &NUMBERED
+}
+
 #[test]
 fn numbered_commands_are_answered_in_their_order(rt: HostRuntime) -> Result<(), Fail> {
     let mut stream = Vec::new(rt.alloc());
     let mut want = Vec::new(rt.alloc());
-    for (command, reply) in NUMBERED {
+    for (command, reply) in numbered_rows() {
         stream.extend_from_slice(command)?;
         want.extend_from_slice(reply)?;
     }

@@ -25,7 +25,7 @@ pub(crate) const TESTED: Row<'static> = (0x02, &[], 0, 2, NOTHING);
 pub(crate) const REQUEST_TESTS: Row<'static> = (0x03, &[], 0, 2, NOTHING);
 
 // From Off to Approved, without a period.
-pub(crate) const UP: [Row<'static>; 5] = [
+static UP: [Row<'static>; 5] = [
     POWER_ON,
     REQUEST_TESTS,
     TESTED,
@@ -33,7 +33,24 @@ pub(crate) const UP: [Row<'static>; 5] = [
     (0x02, &[], 0, 3, NOTHING),
 ];
 
-const HASHES: [Row<'static>; 16] = [
+pub(crate) fn up_rows() -> &'static [Row<'static>] {
+    &UP
+}
+
+// A row alone.
+static AS_OFFICER: [Row<'static>; 1] = [OFFICER];
+
+pub(crate) fn officer_rows() -> &'static [Row<'static>] {
+    &AS_OFFICER
+}
+
+static AS_USER: [Row<'static>; 1] = [USER];
+
+pub(crate) fn user_rows() -> &'static [Row<'static>] {
+    &AS_USER
+}
+
+static HASHES: [Row<'static>; 16] = [
     (0x10, b"\x01abc", 2, 3, NOTHING),
     USER,
     (0x10, b"\x01abc", 0, 5, (1, NO_BLOCK, &HASH_256_ABC)),
@@ -60,10 +77,19 @@ const HASHES: [Row<'static>; 16] = [
     ),
 ];
 
+fn hash_rows() -> &'static [Row<'static>] {
+    &HASHES
+}
+
 #[test]
 fn makes_digests(rt: HostRuntime) -> Result<(), Fail> {
     for step in [1, 65_536] {
-        let (status, replies, want) = played(rt.alloc(), ONE_PASS, &[&UP, &HASHES], step)?;
+        let (status, replies, want) = played(
+            rt.alloc(),
+            ONE_PASS,
+            &[up_rows(), hash_rows()],
+            step,
+        )?;
         assert_eq!(rt; status, 0);
         assert_eq!(rt; replies.bytes(), want.as_slice());
     }
@@ -94,8 +120,8 @@ const SHOW_REPLY: [u8; 24] = [
 fn writes_a_digest_behind_the_header(rt: HostRuntime) -> Result<(), Fail> {
     for step in [1, 65_536] {
         let mut dialogue = Dialogue::new(rt.alloc());
-        play(&mut dialogue, &UP)?;
-        play(&mut dialogue, &[USER])?;
+        play(&mut dialogue, up_rows())?;
+        play(&mut dialogue, user_rows())?;
         dialogue.stream.extend_from_slice(&HASH_COMMAND)?;
         dialogue.want.extend_from_slice(&HASH_REPLY)?;
         dialogue.stream.extend_from_slice(&SHOW_COMMAND)?;
@@ -114,33 +140,53 @@ const JEFE_GIVEN: Row<'static> = (0x09, &JEFE_BYTES, 0, 6, NOTHING);
 const JEFE_DONE: Row<'static> = (0x0a, &JEFE_CHECK, 0, 4, NOTHING);
 
 // A MAC key of four bytes in slot 3, of the domain Other, with 100 uses and with 1.
-const ENTER_JEFE: [Row<'static>; 3] = [JEFE_BEGUN, JEFE_GIVEN, JEFE_DONE];
+static ENTER_JEFE: [Row<'static>; 3] = [JEFE_BEGUN, JEFE_GIVEN, JEFE_DONE];
 
-const ENTER_ONCE: [Row<'static>; 3] = [
+fn jefe_rows() -> &'static [Row<'static>] {
+    &ENTER_JEFE
+}
+
+static ENTER_ONCE: [Row<'static>; 3] = [
     (0x08, &ONCE_BEGIN, 0, 6, NOTHING),
     (0x09, &ONCE_BYTES, 0, 6, NOTHING),
     (0x0a, &ONCE_CHECK, 0, 4, NOTHING),
 ];
 
+fn once_rows() -> &'static [Row<'static>] {
+    &ENTER_ONCE
+}
+
 // A MAC key of fourteen bytes of the domain Approved, in slot 3 with 1 use, and in slot 4 with 100.
-const ENTER_FOURTEEN: [Row<'static>; 3] = [
+static ENTER_FOURTEEN: [Row<'static>; 3] = [
     (0x08, &FOURTEEN_BEGIN, 0, 6, NOTHING),
     (0x09, &FOURTEEN_BYTES, 0, 6, NOTHING),
     (0x0a, &FOURTEEN_CHECK, 0, 4, NOTHING),
 ];
 
-const ENTER_LASTING: [Row<'static>; 3] = [
+fn fourteen_rows() -> &'static [Row<'static>] {
+    &ENTER_FOURTEEN
+}
+
+static ENTER_LASTING: [Row<'static>; 3] = [
     (0x08, &LASTING_BEGIN, 0, 6, NOTHING),
     (0x09, &LASTING_BYTES, 0, 6, NOTHING),
     (0x0a, &LASTING_CHECK, 0, 4, NOTHING),
 ];
 
+fn lasting_rows() -> &'static [Row<'static>] {
+    &ENTER_LASTING
+}
+
 // An AES key of sixteen bytes in slot 5, with 100 uses.
-const ENTER_CIPHER: [Row<'static>; 3] = [
+static ENTER_CIPHER: [Row<'static>; 3] = [
     (0x08, &CIPHER_BEGIN, 0, 6, NOTHING),
     (0x09, &CIPHER_BYTES, 0, 6, NOTHING),
     (0x0a, &CIPHER_CHECK, 0, 4, NOTHING),
 ];
+
+fn cipher_rows() -> &'static [Row<'static>] {
+    &ENTER_CIPHER
+}
 
 // ShowSlot's block of each key: the slot is full, the kind, the domain, the export flag, the length, and the uses left.
 const JEFE_0: Told<'static> = (0, [1, 3, 0, 0, 4, 0, 0, 0, 0, 0, 0, 0], &[]);
@@ -176,7 +222,7 @@ const ASK_512: &[u8] = b"\x03\x03\x40what do ya want for nothing?";
 
 const ASK_BYTE: &[u8] = b"\x03\x01\x01what do ya want for nothing?";
 
-const MACS: [Row<'static>; 20] = [
+static MACS: [Row<'static>; 20] = [
     (0x0e, &[3], 0, 4, JEFE_100),
     USER,
     (0x11, ASK_256, 0, 5, (0, NO_BLOCK, &MAC_256)),
@@ -199,12 +245,22 @@ const MACS: [Row<'static>; 20] = [
     (0x0e, &[3], 0, 4, JEFE_88),
 ];
 
+fn mac_rows() -> &'static [Row<'static>] {
+    &MACS
+}
+
 // A key of four bytes is too short for the domain Approved.
 const TOO_SHORT: Row<'static> = (0x08, &[3, 3, 1, 0, 0, 0, 0, 100, 4], 3, 4, NOTHING);
 
+static REFUSED_KEY: [Row<'static>; 2] = [OFFICER, TOO_SHORT];
+
+fn too_short_rows() -> &'static [Row<'static>] {
+    &REFUSED_KEY
+}
+
 #[test]
 fn makes_and_checks_macs(rt: HostRuntime) -> Result<(), Fail> {
-    let parts: [&[Row]; 4] = [&UP, &[OFFICER, TOO_SHORT], &ENTER_JEFE, &MACS];
+    let parts: [&[Row]; 4] = [up_rows(), too_short_rows(), jefe_rows(), mac_rows()];
     for step in [1, 65_536] {
         let (status, replies, want) = played(rt.alloc(), ONE_PASS, &parts, step)?;
         assert_eq!(rt; status, 0);
@@ -214,7 +270,7 @@ fn makes_and_checks_macs(rt: HostRuntime) -> Result<(), Fail> {
 }
 
 // Bodies of Mac and MacVerify that are cut, of another slot, algorithm or length, or without the whole MAC.
-const BROKEN: [Row<'static>; 21] = [
+static BROKEN: [Row<'static>; 21] = [
     USER,
     (0x11, &[], 3, 5, NOTHING),
     (0x11, &[3, 1], 3, 5, NOTHING),
@@ -238,16 +294,20 @@ const BROKEN: [Row<'static>; 21] = [
     (0x0e, &[3], 0, 5, JEFE_99),
 ];
 
+fn broken_rows() -> &'static [Row<'static>] {
+    &BROKEN
+}
+
 #[test]
 fn spends_no_use_for_a_broken_body(rt: HostRuntime) -> Result<(), Fail> {
-    let parts: [&[Row]; 4] = [&UP, &[OFFICER], &ENTER_JEFE, &BROKEN];
+    let parts: [&[Row]; 4] = [up_rows(), officer_rows(), jefe_rows(), broken_rows()];
     let (status, replies, want) = played(rt.alloc(), ONE_PASS, &parts, 11)?;
     assert_eq!(rt; status, 0);
     assert_eq!(rt; replies.bytes(), want.as_slice());
     Ok(())
 }
 
-const ONCE_USED: [Row<'static>; 6] = [
+static ONCE_USED: [Row<'static>; 6] = [
     USER,
     (0x0e, &[3], 0, 5, JEFE_1),
     (0x11, ASK_256, 0, 5, (0, NO_BLOCK, &MAC_256)),
@@ -256,24 +316,38 @@ const ONCE_USED: [Row<'static>; 6] = [
     (0x0e, &[3], 0, 5, JEFE_0),
 ];
 
+fn once_used_rows() -> &'static [Row<'static>] {
+    &ONCE_USED
+}
+
 // A check that fails spends the one use too.
-const ONCE_CHECKED: [Row<'static>; 4] = [
+static ONCE_CHECKED: [Row<'static>; 4] = [
     USER,
     (0x12, &VERIFY_256_TURNED, 14, 5, NOTHING),
     (0x12, &VERIFY_256, 9, 5, NOTHING),
     (0x0e, &[3], 0, 5, JEFE_0),
 ];
 
+fn once_checked_rows() -> &'static [Row<'static>] {
+    &ONCE_CHECKED
+}
+
+static EMPTIED: [Row<'static>; 2] = [OFFICER, (0x0c, &[3], 0, 4, NOTHING)];
+
+fn emptied_rows() -> &'static [Row<'static>] {
+    &EMPTIED
+}
+
 #[test]
 fn spends_the_last_use(rt: HostRuntime) -> Result<(), Fail> {
     let parts: [&[Row]; 7] = [
-        &UP,
-        &[OFFICER],
-        &ENTER_ONCE,
-        &ONCE_USED,
-        &[OFFICER, (0x0c, &[3], 0, 4, NOTHING)],
-        &ENTER_ONCE,
-        &ONCE_CHECKED,
+        up_rows(),
+        officer_rows(),
+        once_rows(),
+        once_used_rows(),
+        emptied_rows(),
+        once_rows(),
+        once_checked_rows(),
     ];
     let (status, replies, want) = played(rt.alloc(), ONE_PASS, &parts, 7)?;
     assert_eq!(rt; status, 0);
@@ -282,7 +356,7 @@ fn spends_the_last_use(rt: HostRuntime) -> Result<(), Fail> {
 }
 
 // With a key of the domain Approved, a MAC has at least four bytes.
-const APPROVED: [Row<'static>; 13] = [
+static APPROVED: [Row<'static>; 13] = [
     USER,
     (0x11, &[3, 1, 3], 8, 5, NOTHING),
     (0x12, &[3, 1, 3, 0, 0, 0], 8, 5, NOTHING),
@@ -298,9 +372,19 @@ const APPROVED: [Row<'static>; 13] = [
     (0x0e, &[4], 0, 5, LASTING_98),
 ];
 
+fn approved_rows() -> &'static [Row<'static>] {
+    &APPROVED
+}
+
 #[test]
 fn keeps_an_approved_key_to_its_domain(rt: HostRuntime) -> Result<(), Fail> {
-    let parts: [&[Row]; 5] = [&UP, &[OFFICER], &ENTER_FOURTEEN, &ENTER_LASTING, &APPROVED];
+    let parts: [&[Row]; 5] = [
+        up_rows(),
+        officer_rows(),
+        fourteen_rows(),
+        lasting_rows(),
+        approved_rows(),
+    ];
     let (status, replies, want) = played(rt.alloc(), ONE_PASS, &parts, 7)?;
     assert_eq!(rt; status, 0);
     assert_eq!(rt; replies.bytes(), want.as_slice());
@@ -308,7 +392,7 @@ fn keeps_an_approved_key_to_its_domain(rt: HostRuntime) -> Result<(), Fail> {
 }
 
 // Commits to an empty slot that are refused, and leave it empty.
-const NOT_COMMITTED: [Row<'static>; 14] = [
+static NOT_COMMITTED: [Row<'static>; 14] = [
     JEFE_BEGUN,
     JEFE_GIVEN,
     (0x0a, &JEFE_TURNED, 13, 4, NOTHING),
@@ -327,8 +411,12 @@ const NOT_COMMITTED: [Row<'static>; 14] = [
     (0x0e, &[3], 0, 4, NOTHING),
 ];
 
+fn not_committed_rows() -> &'static [Row<'static>] {
+    &NOT_COMMITTED
+}
+
 // Commits after a piece that is too much, and after bodies that haven't eight bytes.
-const COMMITTED: [Row<'static>; 14] = [
+static COMMITTED: [Row<'static>; 14] = [
     JEFE_BEGUN,
     JEFE_GIVEN,
     (0x09, &[0], 12, 6, NOTHING),
@@ -357,8 +445,12 @@ const COMMITTED: [Row<'static>; 14] = [
     (0x0e, &[3], 0, 4, JEFE_100),
 ];
 
+fn committed_rows() -> &'static [Row<'static>] {
+    &COMMITTED
+}
+
 // Commits to a full slot, which stays as it was.
-const OCCUPIED: [Row<'static>; 11] = [
+static OCCUPIED: [Row<'static>; 11] = [
     JEFE_BEGUN,
     JEFE_GIVEN,
     (0x0a, &JEFE_CHECK, 10, 4, NOTHING),
@@ -373,9 +465,19 @@ const OCCUPIED: [Row<'static>; 11] = [
     (0x0e, &[3], 0, 4, JEFE_100),
 ];
 
+fn occupied_rows() -> &'static [Row<'static>] {
+    &OCCUPIED
+}
+
 #[test]
 fn commits_an_entry_that_is_right(rt: HostRuntime) -> Result<(), Fail> {
-    let parts: [&[Row]; 5] = [&UP, &[OFFICER], &NOT_COMMITTED, &COMMITTED, &OCCUPIED];
+    let parts: [&[Row]; 5] = [
+        up_rows(),
+        officer_rows(),
+        not_committed_rows(),
+        committed_rows(),
+        occupied_rows(),
+    ];
     let (status, replies, want) = played(rt.alloc(), ONE_PASS, &parts, 1)?;
     assert_eq!(rt; status, 0);
     assert_eq!(rt; replies.bytes(), want.as_slice());
@@ -403,7 +505,7 @@ const TO_OFFICER: Told<'static> = (0, [4, 0, 0, 0, 0, 0, 0, 3, 0, 0, 0, 0], &[])
 const UNTESTED: Told<'static> = (0, [0, 0, 0, 0, 0, 0, 0, 3, 0, 0, 0, 0], &[]);
 
 // From Off to Approved, with period 3.
-const UP_3: [Row<'static>; 5] = [
+static UP_3: [Row<'static>; 5] = [
     (0x01, &[0, 0, 0, 3], 0, 1, NOTHING),
     REQUEST_TESTS,
     TESTED,
@@ -411,9 +513,13 @@ const UP_3: [Row<'static>; 5] = [
     (0x02, &[], 0, 3, NOTHING),
 ];
 
+fn up_3_rows() -> &'static [Row<'static>] {
+    &UP_3
+}
+
 const HASH_ABC: Row<'static> = (0x10, b"\x01abc", 0, 5, (1, NO_BLOCK, &HASH_256_ABC));
 
-const PERIOD: [Row<'static>; 14] = [
+static PERIOD: [Row<'static>; 14] = [
     USER,
     HASH_ABC,
     HASH_ABC,
@@ -431,8 +537,12 @@ const PERIOD: [Row<'static>; 14] = [
     (0x0e, &[3], 0, 5, JEFE_100),
 ];
 
+fn period_rows() -> &'static [Row<'static>] {
+    &PERIOD
+}
+
 // Each cryptographic service counts that had its state and its form, whatever its status.
-const EACH_COUNTS: [Row<'static>; 17] = [
+static EACH_COUNTS: [Row<'static>; 17] = [
     (0x10, b"", 3, 5, NOTHING),
     (0x11, &[3, 1, 0], 3, 5, NOTHING),
     (0x12, &[3, 1, 1], 3, 5, NOTHING),
@@ -452,8 +562,12 @@ const EACH_COUNTS: [Row<'static>; 17] = [
     (0x04, &[], 0, 5, COUNT_2),
 ];
 
+fn each_counts_rows() -> &'static [Row<'static>] {
+    &EACH_COUNTS
+}
+
 // A change of role keeps the count, tests come back to the officer, and asking for tests or Reset begins a period.
-const COUNTS_END: [Row<'static>; 17] = [
+static COUNTS_END: [Row<'static>; 17] = [
     OFFICER,
     (0x10, b"\x01abc", 0, 2, (1, NO_BLOCK, &HASH_256_ABC)),
     (0x04, &[], 0, 2, TO_OFFICER),
@@ -473,15 +587,19 @@ const COUNTS_END: [Row<'static>; 17] = [
     (0x04, &[], 0, 1, UNTESTED),
 ];
 
+fn counts_end_rows() -> &'static [Row<'static>] {
+    &COUNTS_END
+}
+
 #[test]
 fn asks_for_tests_after_a_period(rt: HostRuntime) -> Result<(), Fail> {
     let parts: [&[Row]; 6] = [
-        &UP_3,
-        &[OFFICER],
-        &ENTER_JEFE,
-        &PERIOD,
-        &EACH_COUNTS,
-        &COUNTS_END,
+        up_3_rows(),
+        officer_rows(),
+        jefe_rows(),
+        period_rows(),
+        each_counts_rows(),
+        counts_end_rows(),
     ];
     let (status, replies, want) = played(rt.alloc(), FIVE_PASSES, &parts, 1)?;
     assert_eq!(rt; status, 0);
@@ -490,7 +608,7 @@ fn asks_for_tests_after_a_period(rt: HostRuntime) -> Result<(), Fail> {
 }
 
 // Slots 3, 4 and 5 are full. A slot of another kind is no MAC key, and one that is emptied is none either.
-const ONE_EMPTIED: [Row<'static>; 12] = [
+static ONE_EMPTIED: [Row<'static>; 12] = [
     (0x11, ASK_256, 2, 4, NOTHING),
     USER,
     (0x11, &[5, 1, 32], 7, 5, NOTHING),
@@ -505,7 +623,11 @@ const ONE_EMPTIED: [Row<'static>; 12] = [
     (0x0e, &[4], 0, 5, LASTING_100),
 ];
 
-const ALL_EMPTIED: [Row<'static>; 5] = [
+fn one_emptied_rows() -> &'static [Row<'static>] {
+    &ONE_EMPTIED
+}
+
+static ALL_EMPTIED: [Row<'static>; 5] = [
     OFFICER,
     (0x0d, &[], 0, 4, NOTHING),
     USER,
@@ -513,10 +635,20 @@ const ALL_EMPTIED: [Row<'static>; 5] = [
     (0x12, &VERIFY_256, 6, 5, NOTHING),
 ];
 
+fn all_emptied_rows() -> &'static [Row<'static>] {
+    &ALL_EMPTIED
+}
+
 pub(crate) const RESET: Row<'static> = (0x07, &[], 0, 1, NOTHING);
 
+static BY_RESET: [Row<'static>; 1] = [RESET];
+
+pub(crate) fn reset_rows() -> &'static [Row<'static>] {
+    &BY_RESET
+}
+
 // From Init to the user's role, and each slot is empty.
-const AFTER_RESET: [Row<'static>; 22] = [
+static AFTER_RESET: [Row<'static>; 22] = [
     REQUEST_TESTS,
     TESTED,
     TESTED,
@@ -541,7 +673,11 @@ const AFTER_RESET: [Row<'static>; 22] = [
     (0x11, ASK_256, 6, 5, NOTHING),
 ];
 
-const ALL_SHOWN: [Row<'static>; 5] = [
+fn after_reset_rows() -> &'static [Row<'static>] {
+    &AFTER_RESET
+}
+
+static ALL_SHOWN: [Row<'static>; 5] = [
     (0x0e, &[3], 0, 5, NOTHING),
     (0x0e, &[4], 0, 5, NOTHING),
     (0x0e, &[5], 0, 5, NOTHING),
@@ -549,17 +685,21 @@ const ALL_SHOWN: [Row<'static>; 5] = [
     (0x11, &[5, 1, 32], 6, 5, NOTHING),
 ];
 
+fn all_shown_rows() -> &'static [Row<'static>] {
+    &ALL_SHOWN
+}
+
 #[test]
 fn empties_slots(rt: HostRuntime) -> Result<(), Fail> {
     let parts: [&[Row]; 8] = [
-        &UP,
-        &[OFFICER],
-        &ENTER_JEFE,
-        &ENTER_LASTING,
-        &ENTER_CIPHER,
-        &ONE_EMPTIED,
-        &ALL_EMPTIED,
-        &ALL_SHOWN,
+        up_rows(),
+        officer_rows(),
+        jefe_rows(),
+        lasting_rows(),
+        cipher_rows(),
+        one_emptied_rows(),
+        all_emptied_rows(),
+        all_shown_rows(),
     ];
     let (status, replies, want) = played(rt.alloc(), ONE_PASS, &parts, 7)?;
     assert_eq!(rt; status, 0);
@@ -569,26 +709,38 @@ fn empties_slots(rt: HostRuntime) -> Result<(), Fail> {
 
 // Slots 3, 4 and 5 are filled by the officer.
 fn fill(dialogue: &mut Dialogue) -> Result<(), Fail> {
-    play(dialogue, &[OFFICER])?;
-    play(dialogue, &ENTER_JEFE)?;
-    play(dialogue, &ENTER_LASTING)?;
-    play(dialogue, &ENTER_CIPHER)
+    play(dialogue, officer_rows())?;
+    play(dialogue, jefe_rows())?;
+    play(dialogue, lasting_rows())?;
+    play(dialogue, cipher_rows())
+}
+
+static RESET_IN_ENTRY: [Row<'static>; 2] = [JEFE_BEGUN, RESET];
+
+fn reset_in_entry_rows() -> &'static [Row<'static>] {
+    &RESET_IN_ENTRY
+}
+
+static RESET_IN_TESTS: [Row<'static>; 2] = [(0x03, &[], 0, 2, NOTHING), RESET];
+
+fn reset_in_tests_rows() -> &'static [Row<'static>] {
+    &RESET_IN_TESTS
 }
 
 // From Officer, from Entry and from SelfTest.
 #[test]
 fn keeps_nothing_through_a_reset(rt: HostRuntime) -> Result<(), Fail> {
     let mut dialogue = Dialogue::new(rt.alloc());
-    play(&mut dialogue, &UP)?;
+    play(&mut dialogue, up_rows())?;
     fill(&mut dialogue)?;
-    play(&mut dialogue, &[RESET])?;
-    play(&mut dialogue, &AFTER_RESET)?;
+    play(&mut dialogue, reset_rows())?;
+    play(&mut dialogue, after_reset_rows())?;
     fill(&mut dialogue)?;
-    play(&mut dialogue, &[JEFE_BEGUN, RESET])?;
-    play(&mut dialogue, &AFTER_RESET)?;
+    play(&mut dialogue, reset_in_entry_rows())?;
+    play(&mut dialogue, after_reset_rows())?;
     fill(&mut dialogue)?;
-    play(&mut dialogue, &[(0x03, &[], 0, 2, NOTHING), RESET])?;
-    play(&mut dialogue, &AFTER_RESET)?;
+    play(&mut dialogue, reset_in_tests_rows())?;
+    play(&mut dialogue, after_reset_rows())?;
     let (status, replies) = outcome(rt.alloc(), FOUR_PASSES, &dialogue.stream, 7)?;
     assert_eq!(rt; status, 0);
     assert_eq!(rt; replies.bytes(), dialogue.want.as_slice());
@@ -596,14 +748,18 @@ fn keeps_nothing_through_a_reset(rt: HostRuntime) -> Result<(), Fail> {
 }
 
 // The known answer and the first digest are right, and the next are wrong.
-const WRONG_DIGESTS: [Row<'static>; 3] = [
+static WRONG_DIGESTS: [Row<'static>; 3] = [
     USER,
     (0x10, b"\x01abc", 0, 5, (1, NO_BLOCK, &HASH_256_ABC)),
     (0x10, b"\x01abc", 0, 5, (1, NO_BLOCK, &HASH_256_ABC_TURNED)),
 ];
 
+fn wrong_digest_rows() -> &'static [Row<'static>] {
+    &WRONG_DIGESTS
+}
+
 // MACs that are wrong once the known answer and the image's were right.
-const WRONG_MACS: [Row<'static>; 5] = [
+static WRONG_MACS: [Row<'static>; 5] = [
     OFFICER,
     JEFE_BEGUN,
     (0x09, &JEFE_BYTES, 0, 6, NOTHING),
@@ -611,18 +767,29 @@ const WRONG_MACS: [Row<'static>; 5] = [
     (0x0e, &[3], 0, 4, NOTHING),
 ];
 
+fn wrong_mac_rows() -> &'static [Row<'static>] {
+    &WRONG_MACS
+}
+
 // No service makes the call that is wrong from the beginning.
-const UNCHANGED: [Row<'static>; 2] = [USER, (0x10, b"\x01abc", 0, 5, (1, NO_BLOCK, &HASH_256_ABC))];
+static UNCHANGED: [Row<'static>; 2] = [
+    USER,
+    (0x10, b"\x01abc", 0, 5, (1, NO_BLOCK, &HASH_256_ABC)),
+];
+
+fn unchanged_rows() -> &'static [Row<'static>] {
+    &UNCHANGED
+}
 
 #[test]
 fn hands_on_what_an_engine_answers(rt: HostRuntime) -> Result<(), Fail> {
     for (engine, rows) in [
-        (Faulty::new(0, 2, 0), WRONG_DIGESTS.as_slice()),
-        (Faulty::new(1, 2, 7), WRONG_MACS.as_slice()),
-        (Faulty::new(2, 0, 0), UNCHANGED.as_slice()),
+        (Faulty::new(0, 2, 0), wrong_digest_rows()),
+        (Faulty::new(1, 2, 7), wrong_mac_rows()),
+        (Faulty::new(2, 0, 0), unchanged_rows()),
     ] {
         let mut dialogue = Dialogue::new(rt.alloc());
-        play(&mut dialogue, &UP)?;
+        play(&mut dialogue, up_rows())?;
         play(&mut dialogue, rows)?;
         let (status, replies) = outcome_over(rt.alloc(), engine, ONE_PASS, &dialogue.stream, 9)?;
         assert_eq!(rt; status, 0);
