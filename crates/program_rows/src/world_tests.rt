@@ -1,4 +1,6 @@
 // Two worlds whose clients enter other keys: what is answered alike, and what isn't.
+ghost use Rattle.std.specs.Prelude.{◌≤◌};
+
 use crate::runs::{ONE_PASS, outcome};
 use crate::world_rows::{
     CHECK_EQUAL, CHECK_ONE, CHECK_ONE_REPLIES, CHECK_OTHER, CHECK_OTHER_REPLIES, CHECK_UNEQUAL,
