@@ -149,6 +149,7 @@ class Worlds(Dialogue):
         """From here on each reply is to be equal, until other bytes are entered again."""
         if self.tainted != Tainted():
             raise Surprise(f"{self.tainted} is tainted yet")
+        self.show_status()
 
 
 def macs():
@@ -167,6 +168,8 @@ def macs():
     w.alike(Service.RANDOM, random(32))
     w.user()
     w.alike(Service.SEAL, seal(1, b"text"))
+    w.alike(Service.MAC, mac(3), Status.EMPTY_SLOT)
+    w.alike(Service.MAC, mac(5), Status.EMPTY_SLOT)
     w.show_all()
     return w
 
@@ -189,6 +192,7 @@ def tree():
     w.alike(Service.DERIVE, derive(6, 7, Kind.MAC, uses=9))
     w.user()
     w.alike(Service.MAC, mac(7))
+    w.alike(Service.MAC, mac(5), Status.EMPTY_SLOT)
     return w
 
 
@@ -278,6 +282,7 @@ def entries():
     w.ask(Service.REQUEST_TESTS)
     w.tests()
     w.user()
+    w.alike(Service.SEAL, seal(3, b"text"), Status.EMPTY_SLOT)
     w.show_all()
     w.alike(Service.RANDOM, random(32))
     return w
