@@ -16,19 +16,19 @@ TEXT, ANOTHER = b"text", b"texu"
 
 
 class Placed(Worlds):
-    """Two worlds, with the places of the replies that are to be equal and of those that are to differ."""
+    """Two worlds, with the places of their replies: from where, to where, and whether they are equal there."""
 
     def __init__(self):
         super().__init__()
-        self.equal, self.unequal = [], []
+        self.places = []
 
     def ask_both(self, service, body, statuses, other_body):
         start = len(self.replies)
         told = super().ask_both(service, body, statuses, other_body)
-        places = self.equal if told[0] == told[1] else self.unequal
-        if places and places[-1][1] == start:
-            start = places.pop()[0]
-        places.append((start, len(self.replies)))
+        equal = told[0] == told[1]
+        if self.places and self.places[-1][2] == equal:
+            start = self.places.pop()[0]
+        self.places.append((start, len(self.replies), equal))
         return told
 
 
@@ -78,16 +78,15 @@ def row(name, value):
 
 
 def places(name, value):
-    listed = ", ".join(f"({start}, {end})" for start, end in value)
-    print(f"pub(crate) const {name}: [(usize, usize); {len(value)}] = [{listed}];\n")
+    listed = ", ".join(f"({start}, {end}, {str(equal).lower()})" for start, end, equal in value)
+    print(f"pub(crate) const {name}: [(usize, usize, bool); {len(value)}] = [{listed}];\n")
 
 
 def worlds(name, w):
     for world, of in (("ONE", w), ("OTHER", w.other)):
         row(f"{name}_{world}", of.stream)
         row(f"{name}_{world}_REPLIES", of.replies)
-    places(f"{name}_EQUAL", w.equal)
-    places(f"{name}_UNEQUAL", w.unequal)
+    places(f"{name}_PLACES", w.places)
 
 
 print("//! Written by `checks/world_rows.py` with Python's hashlib, hmac and cryptography.\n")

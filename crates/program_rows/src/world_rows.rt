@@ -162,9 +162,13 @@ pub(crate) const KEYS_OTHER_REPLIES: [u8; 776] = [
     0xa3, 0x09, 0x1c, 0x28, 0x93, 0x04, 0x15, 0x99,
 ];
 
-pub(crate) const KEYS_EQUAL: [(usize, usize); 3] = [(0, 312), (368, 392), (448, 776)];
-
-pub(crate) const KEYS_UNEQUAL: [(usize, usize); 2] = [(312, 368), (392, 448)];
+pub(crate) const KEYS_PLACES: [(usize, usize, bool); 5] = [
+    (0, 312, true),
+    (312, 368, false),
+    (368, 392, true),
+    (392, 448, false),
+    (448, 776, true),
+];
 
 pub(crate) const SEALED_OTHERWISE: [u8; 56] = [
     0x5c, 0x01, 0x13, 0x00, 0x05, 0x00, 0x00, 0x00, 0x00, 0x00, 0x00, 0x00, 0x00, 0x00, 0x00, 0x00,
@@ -253,6 +257,8 @@ pub(crate) const CHECK_OTHER_REPLIES: [u8; 368] = [
     0x9c, 0x63, 0xb8, 0x81, 0x56, 0xbf, 0x96, 0x6d, 0xae, 0x7a, 0x84, 0x85, 0x50, 0xa3, 0x37, 0xe4,
 ];
 
-pub(crate) const CHECK_EQUAL: [(usize, usize); 2] = [(0, 192), (240, 368)];
-
-pub(crate) const CHECK_UNEQUAL: [(usize, usize); 1] = [(192, 240)];
+pub(crate) const CHECK_PLACES: [(usize, usize, bool); 3] = [
+    (0, 192, true),
+    (192, 240, false),
+    (240, 368, true),
+];
