@@ -7,7 +7,6 @@ and else of the same service, state and error code. `Worlds` keeps account of wh
 """
 import hashlib
 import hmac
-from copy import copy
 from dataclasses import dataclass, field
 
 import machine_functions as functions
@@ -103,7 +102,7 @@ class Worlds(Dialogue):
             raise Surprise(f"{service!r}: the worlds send other bodies")
         request = request_of(self.machine, service, body)
         observed = observes(self.machine, self.tainted, service, request)
-        after = taint_after(self.machine, copy(self.tainted), service, request, body != other_body)
+        after = taint_after(self.machine, self.tainted, service, request, body != other_body)
         reply = super().ask(service, body, statuses[0])
         other = self.other.ask(service, other_body, statuses[1])
         if (reply.service, reply.state, reply.code) != (other.service, other.state, other.code):
