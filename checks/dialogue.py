@@ -14,10 +14,11 @@ import sys
 import dialogue_forms
 import dialogue_keys
 import dialogue_runs
+import dialogue_worlds
 from dialogue_bodies import DIGEST, IMAGE, NOISE
 
 CRATE = os.path.join(os.path.dirname(os.path.abspath(__file__)), "..", "crates", "dialogue_program")
-DIALOGUES = {**dialogue_forms.DIALOGUES, **dialogue_keys.DIALOGUES, **dialogue_runs.DIALOGUES}
+DIALOGUES = {**dialogue_forms.DIALOGUES, **dialogue_keys.DIALOGUES, **dialogue_runs.DIALOGUES, **dialogue_worlds.DIALOGUES}
 
 
 def written():
@@ -60,7 +61,7 @@ def main(words):
         for name, dialogue in DIALOGUES.items():
             print(f"{name:28} {(dialogue.__doc__ or '').splitlines()[0] if dialogue.__doc__ else ''}".rstrip())
         return 0
-    dialogue_runs.compare_worlds()
+    dialogue_runs.compare_draws()
     files = written()
     if words == ["--check"]:
         return check(files)

@@ -1,4 +1,4 @@
-"""Dialogues on draws and noise, periods and first uses, zeroising, and pairs of runs that are to agree."""
+"""Dialogues on draws and noise, periods and first uses, and zeroising."""
 import machine_functions as functions
 from dialogue_bodies import (
     MOST_RESEEDS,
@@ -363,71 +363,8 @@ def trees_outlast_tests():
     return d
 
 
-def two_worlds(key):
-    """Two keys whose bytes differ between two runs: once they are made zero, no reply tells of them."""
-    d = Dialogue().start()
-    d.enter(3, Kind.MAC, key)
-    d.enter(4, Kind.KDF, key)
-    d.enter(1, Kind.AES)
-    d.user()
-    telling = [d.ask(Service.MAC, mac(3))]
-    d.ask(Service.DERIVE, derive(4, 5, Kind.MAC, uses=10))
-    telling.append(d.ask(Service.MAC, mac(5)))
-    d.zeroise(3, 4, 5)
-    untelling = [d.ask(Service.RANDOM, random(32))]
-    d.user()
-    untelling.append(d.ask(Service.SEAL, seal(1, b"text")))
-    d.telling, d.untelling = telling, untelling
-    return d
-
-
-def two_worlds_of_a_tree(key):
-    """The same with ZeroiseTree: what was made from the key is gone with it."""
-    d = Dialogue().start()
-    d.enter(3, Kind.KDF, key, APPROVED, uses=20)
-    d.enter(6, Kind.KDF)
-    d.ask(Service.DERIVE, derive(3, 4, Kind.KDF, uses=9))
-    d.ask(Service.DERIVE, derive(4, 5, Kind.MAC, uses=9))
-    d.user()
-    d.telling = [d.ask(Service.MAC, mac(5))]
-    d.officer()
-    d.ask(Service.ZEROISE_TREE, b"\3")
-    d.untelling = [
-        d.ask(Service.SHOW_SLOT, b"\5"),
-        d.ask(Service.RANDOM, random(32)),
-        d.ask(Service.DERIVE, derive(6, 7, Kind.MAC, uses=9)),
-    ]
-    return d
-
-
-def two_worlds_of_a_kek(key):
-    """Whether a wrapping opens tells of the KEK, and so does the next use of its target: ZeroiseTree of either ends that."""
-    d = Dialogue().start()
-    d.enter(3, Kind.KEK, key)
-    d.enter(7, Kind.KDF)
-    d.enter(8, Kind.KDF)
-    wrapped = functions.wrap(False, counted(32), counted(32))
-    d.telling = [
-        d.ask(Service.UNWRAP, unwrapping(3, 5, Kind.KDF, wrapped, 0, 9), None),
-        d.ask(Service.DERIVE, derive(7, 5, Kind.KDF, uses=9), None),
-    ]
-    d.ask(Service.ZEROISE_TREE, bytes([7]))
-    d.show(5)
-    d.untelling = [d.ask(Service.DERIVE, derive(8, 5, Kind.KDF, uses=9))]
-    d.ask(Service.ZEROISE_TREE, b"\3")
-    d.untelling.append(d.ask(Service.SHOW_SLOT, b"\5"))
-    return d
-
-
-WORLDS = {"worlds": two_worlds, "worlds_of_a_tree": two_worlds_of_a_tree, "worlds_of_a_kek": two_worlds_of_a_kek}
-
-
-def compare_worlds():
-    """That the pairs of runs differ and agree where they should."""
-    for name, world in WORLDS.items():
-        first, second = world(counted(32)), world(counted(32)[::-1])
-        assert all(a != b for a, b in zip(first.telling, second.telling)), name
-        assert all(a == b for a, b in zip(first.untelling, second.untelling)), name
+def compare_draws():
+    """That a Seal on an empty slot draws."""
     with_seal, without = sealed_on_nothing(True), sealed_on_nothing(False)
     assert with_seal.replies[-12:] != without.replies[-12:]
 
@@ -454,6 +391,4 @@ DIALOGUES = {
     "trees_of_refused_uses": trees_of_refused_uses,
     "trees_that_are_forgotten": trees_that_are_forgotten,
     "trees_outlast_tests": trees_outlast_tests,
-    **{f"{name}_1": lambda world=world: world(counted(32)) for name, world in WORLDS.items()},
-    **{f"{name}_2": lambda world=world: world(counted(32)[::-1]) for name, world in WORLDS.items()},
 }

@@ -11,3 +11,7 @@ mod sequence_tests;
 mod service_rows;
 #[cfg(test)]
 mod service_tests;
+#[cfg(test)]
+mod world_rows;
+#[cfg(test)]
+mod world_tests;
