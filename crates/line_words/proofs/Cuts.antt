@@ -1,7 +1,7 @@
 -- A line is its first word, and what stands behind the space after it.
 use Rattle.std.proofs.Common.{◌≡◌, ◌==◌, ◌<◌, ◌≤◌, ℕ, suc, Bool, true, false, if◌then◌else◌, List, [], ◌∷◌, length, take, drop, add-one, ◌+◌, ◌-◌, refl, sym, ap, subst, ◌∙◌, arith}
 use Rattle.std.proofs.lemmas.List.{take_rest}
-use Rattle.line_words.specs.Words.{words_of, with_front}
+use Rattle.line_words.specs.Words.{words_of, with_front, total_length}
 use Rattle.line_words.specs.Cuts.{word_length}
 
 pub word_fits : (line : List ℕ) → word_length line ≤ length line
@@ -47,3 +47,18 @@ rest_words line end e h =
     take_rest line (end + 1) ∙ ap (λ (n : ℕ). drop n line) next in
     let P : ℕ → Type 0 = λ n. words_of line ≡ take n line ∷ words_of (drop (suc n) line) in
     subst P (sym e) (more_words line (omega (arith, e, h))) ∙ ap (λ (l : List ℕ). take end line ∷ words_of l) (sym rest)
+
+total_front : (byte : ℕ) (words : List (List ℕ)) → total_length (with_front byte words) ≤ suc (total_length words)
+total_front byte [] = omega arith
+total_front byte (word ∷ words) = omega arith
+
+-- the words of a line have no more bytes than the line
+pub words_short : (line : List ℕ) → total_length (words_of line) ≤ length line
+unfolding words_of
+words_short [] = omega arith
+words_short (byte ∷ line) = by_space (byte == 0x20) (words_short line)
+  where
+    by_space : (space : Bool) → total_length (words_of line) ≤ length line
+        → total_length (if space then [] ∷ words_of line else with_front byte (words_of line)) ≤ suc (length line)
+    by_space true h = omega (arith, h)
+    by_space false h = omega (arith, h, total_front byte (words_of line))

@@ -1,7 +1,9 @@
 -- Words that are joined by single spaces, and cut again.
-use Rattle.std.proofs.Common.{◌≡◌, ◌≢◌, ◌==◌, ℕ, Bool, true, false, if◌then◌else◌, List, [], ◌∷◌, ◌++◌, refl, sym, ap, ◌∙◌}
+use Rattle.std.specs.Borrow.{Bor}
+use Rattle.std.specs.Option.{is_some}
+use Rattle.std.proofs.Common.{Option, Some, None, IsTrue, ◌↔◌, not, ◌≡◌, ◌≢◌, ◌==◌, ℕ, Bool, true, false, if◌then◌else◌, List, [], ◌∷◌, ◌++◌, refl, sym, ap, ◌∙◌}
 use Rattle.std.proofs.lemmas.Bool.{eqb-true}
-use Rattle.line_words.specs.Words.{words_of, with_front, joined_words, HasNoSpace, HaveNoSpace}
+use Rattle.line_words.specs.Words.{words_of, words_left, with_front, joined_words, HasNoSpace, HaveNoSpace}
 
 front_some : (byte : ℕ) (words : List (List ℕ)) → with_front byte words ≢ []
 front_some byte [] = λ e. cc e
@@ -69,3 +71,11 @@ only [] h some = absurd (some refl)
 only (word ∷ []) h some = alone word h.0
 only (word ∷ next ∷ words) h some =
     before word (joined_words (next ∷ words)) h.0 ∙ ap (λ (r : List (List ℕ)). word ∷ r) (only (next ∷ words) h.1 (λ e. cc e))
+
+-- no word is left exactly where nothing of the line is
+pub left_none : (rest : Option (Bor (List ℕ))) (words : List (List ℕ)) (none : Bool) → words_left rest ≡ words → is_some rest ≡ not none
+    → IsTrue none ↔ (words ≡ [])
+left_none None words true e t = (λ h. sym e, λ h. refl)
+left_none None words false e t = absurd (cc t)
+left_none (Some line) words true e t = absurd (cc t)
+left_none (Some line) words false e t = (λ h. absurd (cc h), λ h. absurd (words_some line.now (e ∙ h)))

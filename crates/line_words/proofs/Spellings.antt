@@ -1,12 +1,13 @@
 -- Words of bytes: how many bytes, and which.
-use Rattle.std.proofs.Common.{◌≡◌, ◌==◌, ◌<◌, ◌*◌, ◌/◌, ℕ, Bool, true, false, if◌then◌else◌, List, [], ◌∷◌, length, Some, None, Result, Ok, Err, bytes_eq, refl, sym, ap, subst, ◌∙◌, arith}
-use Rattle.std.specs.Option.{option_map}
+use Rattle.std.proofs.Common.{Option, ◌≡◌, ◌==◌, ◌<◌, ◌*◌, ◌/◌, ℕ, Bool, true, false, if◌then◌else◌, List, [], ◌∷◌, length, Some, None, Result, Ok, Err, bytes_eq, refl, sym, ap, subst, ◌∙◌, arith}
+use Rattle.std.specs.Option.{option_map, unwrap_or}
 use Rattle.std.specs.Result.{result_ok, is_ok, MatchResult}
 use Rattle.std.proofs.lemmas.Bool.Decides.{Decides-eqb, not_from_Decides}
 use Rattle.hex.specs.Hex.{decode_of, decode_sized}
 use Rattle.hex.specs.declared.error.FromHexError.{FromHexError}
 use Rattle.hex.proofs.HexLemmas.{decode_of-ok, decode_of-digits, decode_sized-twice}
 use Rattle.line_words.specs.Bytes.{bytes_of, no_byte, IsHex}
+use Rattle.line_words.specs.HexWords.{spelled}
 
 pub hyphen : (word : List ℕ) → bytes_eq word no_byte ≡ true → bytes_of word ≡ Some []
 unfolding bytes_of
@@ -81,3 +82,10 @@ written word out n r is h =
     let P : Result (List ℕ) FromHexError → Type 0 = λ d. MatchResult d (λ bytes. (r ≡ Ok tt) × (out ≡ bytes)) (λ e. r ≡ Err e) in
     let done : (r ≡ Ok tt) × (out ≡ is.bytes) = subst P is.decoded h in
     (ap (is_ok {T = Unit} {E = FromHexError}) done.0, is.spelled ∙ ap (λ (xs : List ℕ). Some xs) (sym done.1))
+
+pub counted : (word : List ℕ) (n : ℕ) → Some n ≡ option_map (length {A = ℕ}) (bytes_of word) → n ≡ length (spelled word)
+counted word n h = by_bytes (bytes_of word) h
+  where
+    by_bytes : (found : Option (List ℕ)) → Some n ≡ option_map (length {A = ℕ}) found → n ≡ length (unwrap_or found [])
+    by_bytes None h = absurd (cc h)
+    by_bytes (Some bytes) h = cc h

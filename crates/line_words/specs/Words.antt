@@ -36,3 +36,8 @@ HasNoSpace (byte ∷ bytes) = ((byte == 0x20) ≡ false) × HasNoSpace bytes
 abbrev pub HaveNoSpace : List (List ℕ) → Type 0
 HaveNoSpace [] = Unit {0}
 HaveNoSpace (word ∷ words) = HasNoSpace word × HaveNoSpace words
+
+-- the bytes of all words together
+abbrev pub total_length : List (List ℕ) → ℕ
+total_length [] = 0
+total_length (word ∷ words) = length word + total_length words

@@ -1,5 +1,5 @@
 //! The word of bytes.
-ghost use Rattle.std.specs.Prelude.{◌≡◌, ◌↔◌, Some, length, IsTrue, bytes_eq};
+ghost use Rattle.std.specs.Prelude.{◌≡◌, ◌≤◌, ◌*◌, ◌↔◌, Some, IfSome, length, IsTrue, bytes_eq};
 ghost use Rattle.std.specs.List.{AllPass};
 ghost use Rattle.std.specs.Option.{option_map};
 ghost use Rattle.hex.specs.Hex.{is_hex_digit};
@@ -41,7 +41,8 @@ fn is_hex(word: &[u8]) -> bool
 /// The number of bytes that a word spells: it is an even number of hex digits of either case, at least two, or a hyphen for no byte.
 /// `None` where the word is of another form.
 pub fn bytes_length(word: &[u8]) -> Option<usize>
-    ensures { result ≡ option_map length (bytes_of word.now) }
+    ensures count { result ≡ option_map length (bytes_of word.now) }
+    ensures short { IfSome result (λ count. 2 * count ≤ length word.now) }
 {
     if is_hyphen(word) {
         Some(0)
