@@ -1,7 +1,12 @@
 -- Vector lines (a form of this project's own): a test vector of a function, as words.
-use Rattle.std.specs.Prelude.{ℕ, ◌+◌, Bool, List, length, Option, Some, None}
+use Rattle.std.specs.Prelude.{ℕ, ◌+◌, Bool, if◌then◌else◌, List, [], ◌∷◌, length, Option, Some, None}
 use Rattle.bits_core.specs.declared.algorithm.Alg.{Alg}
 use Rattle.cmac_core.specs.declared.derivation.Mode.{Mode}
+use Rattle.line_words.specs.Words.{words_of}
+use Rattle.vector_suite.specs.Kinds.{kind_of}
+use Rattle.vector_suite.specs.Lengths.{has_allowed_lengths}
+use Rattle.vector_suite.specs.declared.kind.Kind.{Kind}
+use Rattle.vector_suite.specs.declared.kind.Kind.TheVariants as kind
 use Rattle.vector_suite.specs.Shapes.{first_bytes, first_answer, answer_length, alone, ◌>>=◌}
 use Rattle.vector_suite.specs.declared.vector.Vector.{Vector}
 use Rattle.vector_suite.specs.declared.vector.Vector.TheVariants as vector
@@ -106,3 +111,32 @@ bytes_in (vector.Derive key label context out) = length key + length label + len
 bytes_in (vector.Drbg entropy nonce personal out) = length entropy + length nonce + length personal + length out
 bytes_in (vector.Cmac key text out) = length key + length text + length out
 bytes_in (vector.CmacKdf mode key label context out) = length key + length label + length context + length out
+
+-- what the words behind a kind's name say
+abbrev pub shape_of : Kind → List (List ℕ) → Option Vector
+shape_of (kind.Hash alg) words = hash_of alg words
+shape_of (kind.Mac alg) words = mac_of alg words
+shape_of kind.Seal words = seal_of words
+shape_of kind.Open words = open_of words
+shape_of (kind.Wrap pad) words = wrap_of pad words
+shape_of (kind.Unwrap pad) words = unwrap_of pad words
+shape_of kind.Derive words = derive_of words
+shape_of kind.Drbg words = drbg_of words
+shape_of kind.Cmac words = cmac_of words
+shape_of (kind.CmacKdf mode) words = cmac_kdf_of mode words
+
+-- a vector whose parts have lengths that they may have
+abbrev pub allowed : Vector → Option Vector
+allowed vector = if has_allowed_lengths vector then Some vector else None
+
+-- the vector of some words, the first of which is the kind's name
+abbrev pub vector_of_words : List (List ℕ) → Option Vector
+vector_of_words [] = None
+vector_of_words (name ∷ words) = do
+  kind ← kind_of name
+  vector ← shape_of kind words
+  allowed vector
+
+-- the vector of a line, if it is one of a vector
+unfoldable pub vector_of : List ℕ → Option Vector
+vector_of line = vector_of_words (words_of line)

@@ -1,7 +1,11 @@
 //! Published test vectors: a vector is a line of words, and a check makes its calls and compares what they answer.
 #![tactic(auto)]
 
+mod allowed;
+mod answers;
+mod derivations;
 mod kind;
+mod lines;
 mod names;
 mod reading;
 mod shapes;
