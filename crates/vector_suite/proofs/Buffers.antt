@@ -49,3 +49,12 @@ unwrapped_size calls keeps v pad key wrapping buf size is_key bytes fits given a
     let same : take (length wrapping) buf ≡ wrapping = ap (take (length wrapping)) given ∙ front wrapping in
     let answer : (calls.unwrap v pad key wrapping).size ≡ Some size = sym (answered ∙ ap (λ (f : List ℕ). (calls.unwrap v pad key f).size) same) in
     unwrapped_fits pad (length wrapping) size fits (subst P answer (keeps.unwrap_size v pad key wrapping is_key bytes fits))
+
+-- what an engine wraps from the front of a buffer fits the buffer
+pub wrapped_size : {V : Type 0} (calls : Calls V) → Keeps calls → (v : V) (pad : Bool) (key text buf : List ℕ) (size : ℕ)
+    → IsWrappable pad (length text) → buf ≡ zero_padded 80 text → size ≡ (calls.wrap v pad key (take (length text) buf)).size → size ≤ 80
+wrapped_size calls keeps v pad key text buf size fits given answered =
+    let same : take (length text) buf ≡ text = ap (take (length text)) given ∙ front text in
+    let answer : size ≡ wrapped_length pad (length text) =
+    answered ∙ ap (λ (f : List ℕ). (calls.wrap v pad key f).size) same ∙ keeps.wrap_size v pad key text fits in
+    omega (arith, answer, wrapping_fits pad (length text) fits)

@@ -17,8 +17,11 @@ pub record Found (V : Type 0) : Type 0 where
   pub read : VectorRead
   pub engine : V
 
+abbrev pub read_of : Bool → VectorRead
+read_of passed = if passed then Pass else Fail
+
 abbrev pub found_by : {V : Type 0} → Outcome V → Found V
-found_by outcome = record { read = if outcome.passed then Pass else Fail; engine = outcome.engine }
+found_by outcome = record { read = read_of outcome.passed; engine = outcome.engine }
 
 -- a line that is no vector's is bad, and leaves the engine
 abbrev pub found_in : {V : Type 0} → Calls V → V → Option Vector → Found V

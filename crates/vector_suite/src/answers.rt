@@ -1,9 +1,8 @@
 //! The calls of a vector, each made once, and what they answer beside what is expected.
-ghost use Rattle.std.specs.Prelude.{◌≡◌, ◌≤◌, bytes_eq, length, not, true, IsTrue};
+ghost use Rattle.std.specs.Prelude.{◌≡◌, ◌≤◌, ◌&&◌, bytes_eq, length, not, true, IsTrue};
 ghost use Rattle.bits_core.specs.ByteList.{zero_padded, zeros};
 ghost use Rattle.bits_core.specs.Parameters.{is_aes_length};
-ghost use Rattle.engine_core.specs.Inputs.{IsUnwrappable, IsWrappable};
-ghost use Rattle.gcm_mode.specs.Gcm.{IsIv, IsSealable, IsTagLength};
+ghost use Rattle.vector_suite.specs.Lengths.{is_within, is_wrappable, is_unwrappable, are_sealable, are_derivable};
 ghost use Rattle.vector_suite.specs.Outcomes.{hash_outcome, mac_outcome, seal_outcome, open_outcome, wrap_outcome, unwrap_outcome, derive_outcome, drbg_outcome};
 ghost use Rattle.vector_suite.specs.declared.vector.Expected.TheVariants.{Refusal, Bytes};
 
@@ -59,11 +58,7 @@ pub fn is_sealed<E: Engine>(
     out: &[u8],
     tag: &[u8],
 ) -> bool
-    requires key { IsTrue (is_aes_length (length key.now)) }
-    requires iv { IsIv iv.now }
-    requires aad { IsSealable aad.now }
-    requires text { IsSealable text.old }
-    requires tag { IsTagLength (length tag.now) }
+    requires { IsTrue (are_sealable (length key.now) (length iv.now) (length aad.now) (length text.old) (length tag.now)) }
     ensures passed { result ≡ (seal_outcome E.calls engine.old key.now iv.now aad.now text.old out.now tag.now).passed }
     ensures engine { engine.new ≡ (seal_outcome E.calls engine.old key.now iv.now aad.now text.old out.now tag.now).engine }
 {
@@ -84,11 +79,7 @@ fn opens<E: Engine>(
     text: &mut [u8],
     tag: &[u8],
 ) -> bool
-    requires key { IsTrue (is_aes_length (length key.now)) }
-    requires iv { IsIv iv.now }
-    requires aad { IsSealable aad.now }
-    requires text { IsSealable text.old }
-    requires tag { IsTagLength (length tag.now) }
+    requires { IsTrue (are_sealable (length key.now) (length iv.now) (length aad.now) (length text.old) (length tag.now)) }
     ensures answer { result ≡ (E.calls.open engine.old key.now iv.now aad.now text.old tag.now).authentic }
     ensures text { text.new ≡ (E.calls.open engine.old key.now iv.now aad.now text.old tag.now).text }
     ensures engine { engine.new ≡ E.calls.open_after engine.old key.now iv.now aad.now text.old tag.now }
@@ -110,11 +101,7 @@ pub fn is_opened<E: Engine>(
     tag: &[u8],
     out: &[u8],
 ) -> bool
-    requires key { IsTrue (is_aes_length (length key.now)) }
-    requires iv { IsIv iv.now }
-    requires aad { IsSealable aad.now }
-    requires text { IsSealable text.old }
-    requires tag { IsTagLength (length tag.now) }
+    requires { IsTrue (are_sealable (length key.now) (length iv.now) (length aad.now) (length text.old) (length tag.now)) }
     ensures passed { result ≡ (open_outcome E.calls engine.old key.now iv.now aad.now text.old tag.now (Bytes out.now)).passed }
     ensures engine { engine.new ≡ (open_outcome E.calls engine.old key.now iv.now aad.now text.old tag.now (Bytes out.now)).engine }
 {
@@ -130,11 +117,7 @@ pub fn is_not_opened<E: Engine>(
     text: &mut [u8],
     tag: &[u8],
 ) -> bool
-    requires key { IsTrue (is_aes_length (length key.now)) }
-    requires iv { IsIv iv.now }
-    requires aad { IsSealable aad.now }
-    requires text { IsSealable text.old }
-    requires tag { IsTagLength (length tag.now) }
+    requires { IsTrue (are_sealable (length key.now) (length iv.now) (length aad.now) (length text.old) (length tag.now)) }
     ensures passed { result ≡ (open_outcome E.calls engine.old key.now iv.now aad.now text.old tag.now Refusal).passed }
     ensures engine { engine.new ≡ (open_outcome E.calls engine.old key.now iv.now aad.now text.old tag.now Refusal).engine }
 {
@@ -144,8 +127,7 @@ pub fn is_not_opened<E: Engine>(
 /// The wrapping of a text, with padding or without.
 #[tactic(auto, using(crate::proofs::Buffers::front, crate::proofs::Buffers::rest, crate::proofs::Buffers::text_fits))]
 pub fn is_wrapped<E: Engine>(engine: &mut E, pad: bool, key: &[u8], text: &[u8], out: &[u8]) -> bool
-    requires key { IsTrue (is_aes_length (length key.now)) }
-    requires text { IsWrappable pad (length text.now) }
+    requires { IsTrue (is_aes_length (length key.now) && is_wrappable pad (length text.now)) }
     ensures passed { result ≡ (wrap_outcome E.calls engine.old pad key.now text.now out.now).passed }
     ensures engine { engine.new ≡ (wrap_outcome E.calls engine.old pad key.now text.now out.now).engine }
 {
@@ -166,8 +148,7 @@ pub fn is_unwrapped<E: Engine>(
     wrapped: &[u8],
     out: &[u8],
 ) -> bool
-    requires key { IsTrue (is_aes_length (length key.now)) }
-    requires wrapped { IsUnwrappable pad (length wrapped.now) }
+    requires { IsTrue (is_aes_length (length key.now) && is_unwrappable pad (length wrapped.now)) }
     ensures passed { result ≡ (unwrap_outcome E.calls engine.old pad key.now wrapped.now (Bytes out.now)).passed }
     ensures engine { engine.new ≡ (unwrap_outcome E.calls engine.old pad key.now wrapped.now (Bytes out.now)).engine }
 {
@@ -185,8 +166,7 @@ pub fn is_unwrapped<E: Engine>(
 /// A wrapping that is refused, with padding or without.
 #[tactic(auto, using(crate::proofs::Buffers::front, crate::proofs::Buffers::rest, crate::proofs::Buffers::wrapped_fits))]
 pub fn is_not_unwrapped<E: Engine>(engine: &mut E, pad: bool, key: &[u8], wrapped: &[u8]) -> bool
-    requires key { IsTrue (is_aes_length (length key.now)) }
-    requires wrapped { IsUnwrappable pad (length wrapped.now) }
+    requires { IsTrue (is_aes_length (length key.now) && is_unwrappable pad (length wrapped.now)) }
     ensures passed { result ≡ (unwrap_outcome E.calls engine.old pad key.now wrapped.now Refusal).passed }
     ensures engine { engine.new ≡ (unwrap_outcome E.calls engine.old pad key.now wrapped.now Refusal).engine }
 {
@@ -210,8 +190,7 @@ pub fn is_derived<E: Engine>(
     out: &[u8],
     made: &mut [u8],
 ) -> bool
-    requires some { 1 ≤ length out.now }
-    requires most { length out.now ≤ 65536 }
+    requires allowed { IsTrue (are_derivable (length label.now) (length context.now) (length out.now)) }
     requires made { length made.old ≡ length out.now }
     ensures passed { result ≡ (derive_outcome E.calls engine.old key.now label.now context.now out.now).passed }
     ensures engine { engine.new ≡ (derive_outcome E.calls engine.old key.now label.now context.now out.now).engine }
@@ -230,7 +209,7 @@ pub fn is_generated<E: Engine>(
     out: &[u8],
     made: &mut [u8],
 ) -> bool
-    requires most { length out.now ≤ 65536 }
+    requires allowed { IsTrue (is_within 1 65536 (length out.now)) }
     requires made { length made.old ≡ length out.now }
     ensures passed { result ≡ (drbg_outcome E.calls engine.old entropy.now nonce.now personal.now out.now).passed }
     ensures engine { engine.new ≡ (drbg_outcome E.calls engine.old entropy.now nonce.now personal.now out.now).engine }

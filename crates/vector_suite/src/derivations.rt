@@ -1,9 +1,10 @@
 //! CMAC and key derivation over it, which are no calls of an engine.
-ghost use Rattle.std.specs.Prelude.{◌≡◌, ◌≤◌, ◌<◌, bytes_eq, length, IsTrue};
+ghost use Rattle.std.specs.Prelude.{◌≡◌, ◌≤◌, ◌<◌, ◌&&◌, bytes_eq, length, IsTrue};
 ghost use Rattle.aes_core.specs.Schedules.{IsExpanded};
 ghost use Rattle.bits_core.specs.Parameters.{is_aes_length};
 ghost use Rattle.cmac_core.specs.Cmac.{cmac};
 ghost use Rattle.cmac_core.specs.Derivation.{cmac_kdf};
+ghost use Rattle.vector_suite.specs.Lengths.{are_derivable};
 
 use crate::answers::equal;
 use aes_core::Schedule;
@@ -40,9 +41,7 @@ pub fn is_derived_by_cmac(
     out: &[u8],
     made: &mut [u8],
 ) -> bool
-    requires key { IsTrue (is_aes_length (length key.now)) }
-    requires some { 1 ≤ length out.now }
-    requires most { length out.now ≤ 65536 }
+    requires allowed { IsTrue (is_aes_length (length key.now) && are_derivable (length label.now) (length context.now) (length out.now)) }
     requires made { length made.old ≡ length out.now }
     ensures { result ≡ bytes_eq (cmac_kdf mode key.now label.now context.now (length out.now)) out.now }
 {

@@ -3,6 +3,8 @@
 
 mod allowed;
 mod answers;
+mod checking;
+mod decoding;
 mod derivations;
 mod kind;
 mod lines;
@@ -10,3 +12,8 @@ mod names;
 mod reading;
 mod shapes;
 mod vector;
+
+pub use lines::{VectorRead, check_line};
+
+#[cfg(test)]
+mod tests;
