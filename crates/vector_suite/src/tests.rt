@@ -3,6 +3,7 @@ mod rows;
 
 use crate::{VectorRead, check_line};
 use engine_core::Shipped;
+use std::alloc::Global;
 use std::process::Abort;
 use std::test::Fail;
 
@@ -15,37 +16,37 @@ fn read(rt: &impl Abort, line: &[u8], work: &mut [u8]) -> VectorRead {
 }
 
 // Each of the lines is found to be the same.
-fn expect(rt: HostRuntime, lines: &[&str], found: VectorRead) -> Result<(), Fail> {
-    let mut work = vec![in rt.alloc(); 0xffu8; 131_456]?;
+fn expect(rt: &impl Abort, alloc: Global, lines: &[&str], found: VectorRead) -> Result<(), Fail> {
+    let mut work = vec![in alloc; 0xffu8; 131_456]?;
     for line in lines {
-        assert_eq!(rt; read(&rt, line.as_bytes(), &mut work), found, "{line}");
+        assert_eq!(rt; read(rt, line.as_bytes(), &mut work), found, "{line}");
     }
     Ok(())
 }
 
 #[test]
 fn expected_answers_pass(rt: HostRuntime) -> Result<(), Fail> {
-    expect(rt, &rows::PASSING, VectorRead::Pass)
+    expect(&rt, rt.alloc(), &rows::PASSING, VectorRead::Pass)
 }
 
 #[test]
 fn other_answers_fail(rt: HostRuntime) -> Result<(), Fail> {
-    expect(rt, &rows::FAILING, VectorRead::Fail)
+    expect(&rt, rt.alloc(), &rows::FAILING, VectorRead::Fail)
 }
 
 #[test]
 fn a_byte_more_fails(rt: HostRuntime) -> Result<(), Fail> {
-    expect(rt, &rows::LONGER, VectorRead::Fail)
+    expect(&rt, rt.alloc(), &rows::LONGER, VectorRead::Fail)
 }
 
 #[test]
 fn a_byte_less_fails(rt: HostRuntime) -> Result<(), Fail> {
-    expect(rt, &rows::SHORTER, VectorRead::Fail)
+    expect(&rt, rt.alloc(), &rows::SHORTER, VectorRead::Fail)
 }
 
 #[test]
 fn a_refusal_in_place_of_an_answer_fails(rt: HostRuntime) -> Result<(), Fail> {
-    expect(rt, &rows::REFUSED, VectorRead::Fail)
+    expect(&rt, rt.alloc(), &rows::REFUSED, VectorRead::Fail)
 }
 
 // The sealed zeros of GCM's test case 14, the key wrapping of RFC 3394, 4.1, and the padded one of RFC 5649, 6; digits of either case.
@@ -58,13 +59,14 @@ const PUBLISHED: [&str; 4] = [
 
 #[test]
 fn published_vectors_pass(rt: HostRuntime) -> Result<(), Fail> {
-    expect(rt, &PUBLISHED, VectorRead::Pass)
+    expect(&rt, rt.alloc(), &PUBLISHED, VectorRead::Pass)
 }
 
 #[test]
 fn an_empty_answer_fails(rt: HostRuntime) -> Result<(), Fail> {
     expect(
-        rt,
+        &rt,
+        rt.alloc(),
         &[
             "sha256 616263 -",
             "cmac 2b7e151628aed2a6abf7158809cf4f3c - -",
@@ -76,7 +78,8 @@ fn an_empty_answer_fails(rt: HostRuntime) -> Result<(), Fail> {
 #[test]
 fn comments(rt: HostRuntime) -> Result<(), Fail> {
     expect(
-        rt,
+        &rt,
+        rt.alloc(),
         &["", "#", "# sha256 616263 00", "#\t"],
         VectorRead::Comment,
     )
@@ -104,7 +107,7 @@ const OTHER_WORDS: [&str; 16] = [
 
 #[test]
 fn other_words_are_bad(rt: HostRuntime) -> Result<(), Fail> {
-    expect(rt, &OTHER_WORDS, VectorRead::Bad)
+    expect(&rt, rt.alloc(), &OTHER_WORDS, VectorRead::Bad)
 }
 
 // Lengths that are just not allowed, of keys, IVs, tags, and of what is wrapped and unwrapped.
@@ -129,7 +132,7 @@ const OTHER_LENGTHS: [&str; 16] = [
 
 #[test]
 fn other_lengths_are_bad(rt: HostRuntime) -> Result<(), Fail> {
-    expect(rt, &OTHER_LENGTHS, VectorRead::Bad)
+    expect(&rt, rt.alloc(), &OTHER_LENGTHS, VectorRead::Bad)
 }
 
 // Puts digits behind what stands in a line, and a word behind them.
