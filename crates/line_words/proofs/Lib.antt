@@ -1,0 +1,4 @@
+mod Cuts
+mod Joining
+mod Spellings
+mod Numerals
