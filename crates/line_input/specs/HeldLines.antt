@@ -50,8 +50,8 @@ pub record Feeds (old : HeldLine) (piece : List ℕ) (answer : LineFed) (new : H
   pub before : old.too_long ≡ false → FeedsPiece old piece answer new
   pub after : old.too_long ≡ true → (answer ≡ fed.TooLong) × (new ≡ old)
 
--- a whole line stands after this answer, or none does
-abbrev pub StandsAfter : LineFed → Bool → Type 0
-StandsAfter fed.More stands = stands ≡ false
-StandsAfter (fed.Whole count) stands = stands ≡ true
-StandsAfter fed.TooLong stands = stands ≡ false
+-- a whole line stands after this answer, and no more was taken than there is; or none stands
+abbrev pub StandsAfter : List ℕ → LineFed → Bool → Type 0
+StandsAfter piece fed.More stands = stands ≡ false
+StandsAfter piece (fed.Whole count) stands = (stands ≡ true) × (count ≤ length piece)
+StandsAfter piece fed.TooLong stands = stands ≡ false

@@ -105,7 +105,7 @@ impl Lines {
     pub fn feed(&mut self, piece: &[u8]) -> LineFed
         requires { self.old.whole ≡ false }
         ensures fed { Feeds self.old piece.now result self.new }
-        ensures stands { StandsAfter result self.new.whole }
+        ensures stands { StandsAfter piece.now result self.new.whole }
     {
         if self.too_long {
             return LineFed::TooLong;

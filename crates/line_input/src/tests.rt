@@ -2,7 +2,7 @@
 ghost use Rattle.std.specs.Prelude.{◌≡◌, false, OnOk};
 
 use crate::{LARGEST_LINE, LineFed, Lines};
-use std::alloc::AllocError;
+use std::alloc::{AllocError, Global};
 use std::test::Fail;
 
 // Feeds a piece, and writes each line that stands behind those that were seen, with a bar. Whether no line was too long.
@@ -53,9 +53,14 @@ fn a_last_line_needs_bytes(rt: HostRuntime) -> Result<(), Fail> {
     Ok(())
 }
 
+// So many bytes of one value.
+fn equal_bytes(alloc: Global, byte: u8, count: usize) -> Result<Vec<u8>, AllocError> {
+    vec![in alloc; byte; count]
+}
+
 #[test]
 fn the_longest_line_stands(rt: HostRuntime) -> Result<(), Fail> {
-    let piece = vec![in rt.alloc(); b'7'; LARGEST_LINE]?;
+    let piece = equal_bytes(rt.alloc(), b'7', LARGEST_LINE)?;
     let mut lines = Lines::new(rt.alloc())?;
     assert_eq!(rt; lines.feed(&piece), LineFed::More);
     assert_eq!(rt; lines.feed(b"\nmore"), LineFed::Whole(1));
@@ -68,7 +73,7 @@ fn the_longest_line_stands(rt: HostRuntime) -> Result<(), Fail> {
 
 #[test]
 fn a_longer_line_is_refused_for_good(rt: HostRuntime) -> Result<(), Fail> {
-    let piece = vec![in rt.alloc(); b'#'; LARGEST_LINE]?;
+    let piece = equal_bytes(rt.alloc(), b'#', LARGEST_LINE)?;
     for more in [b"#".as_slice(), b"#\n"] {
         let mut lines = Lines::new(rt.alloc())?;
         assert_eq!(rt; lines.feed(&piece), LineFed::More);
