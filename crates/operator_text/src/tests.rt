@@ -140,7 +140,7 @@ fn a_short_word_has_at_most_255_bytes(rt: HostRuntime) -> Result<(), Fail> {
     line[..16].copy_from_slice(b"verify 3 sha256 ");
     line[526..528].copy_from_slice(b" -");
     assert_eq!(rt; read_line(&line[..528], &mut command), LineRead::Command);
-    assert_eq!(rt; command.body()[2], 255);
+    assert!(rt; command.body().starts_with(b"\x03\x01\xff"));
     line[526..530].copy_from_slice(b"77 -");
     assert!(rt; is_bad(&line, &mut command));
     Ok(())

@@ -1,5 +1,5 @@
 // Reply lines, against lines that were written by hand.
-ghost use Rattle.std.specs.Prelude.{◌≡◌, IfOk, length};
+ghost use Rattle.std.specs.Prelude.{◌≡◌, ◌≤◌, IfOk, length};
 
 use crate::write_line;
 use bits_core::{Enabled, LARGEST_PAYLOAD, Outbox, Port};
@@ -47,22 +47,44 @@ fn all_words_are_written(rt: HostRuntime) -> Result<(), Fail> {
     Ok(())
 }
 
+// Whether the line of a reply with this status begins so.
+fn begins(status: Status, start: &[u8], reply: &mut Reply, line: &mut Outbox) -> bool
+    requires { 131456 ≤ line.old.room }
+    ensures { line.new.room ≡ line.old.room }
+{
+    reply.status = status;
+    write_line(reply, line);
+    line.bytes().starts_with(start)
+}
+
 #[test]
 fn the_names_of_statuses_are_written(rt: HostRuntime) -> Result<(), Fail> {
     let mut reply = Reply::new(rt.alloc())?;
     let mut line = Outbox::new(rt.alloc(), ROOM)?;
-    for (number, name) in [
-        (14u8, b"AuthFailed".as_slice()),
-        (16, b"OutOfOrder"),
-        (11, b"NotExportable"),
-        (15, b"UnwrapFailed"),
-    ] {
-        if let Some(status) = Status::from_number(number) {
-            reply.status = status;
-        }
-        write_line(&reply, &mut line);
-        assert!(rt; line.bytes().starts_with(name));
-    }
+    assert!(rt;
+        begins(
+            Status::AuthFailed,
+            b"AuthFailed Off ",
+            &mut reply,
+            &mut line
+        )
+    );
+    assert!(rt;
+        begins(
+            Status::NotExportable,
+            b"NotExportable Off ",
+            &mut reply,
+            &mut line
+        )
+    );
+    assert!(rt;
+        begins(
+            Status::OutOfOrder,
+            b"OutOfOrder Off ",
+            &mut reply,
+            &mut line
+        )
+    );
     Ok(())
 }
 
