@@ -105,7 +105,7 @@ fn the_longest_payload_is_written(rt: HostRuntime) -> Result<(), Fail> {
     }
     let mut line = Outbox::new(rt.alloc(), ROOM)?;
     write_line(&reply, &mut line);
-    assert_eq!(rt; line.bytes().len(), 131_369);
+    assert_eq!(rt; line.bytes().len(), 131_368);
     assert!(rt; line.bytes().ends_with(b"eeee\n"));
     Ok(())
 }
