@@ -1,0 +1,8 @@
+mod HexPairs
+mod NameTables
+mod ValuesOf
+mod Bodies
+mod OneCommand
+mod WordTests
+mod Readings
+mod WordLists

@@ -1,0 +1,5 @@
+use Rattle.std.proofs.Common.{length}
+use Rattle.operator_text.proofs.words.+are_words.Given as goal
+
+abbrev pub decreases-are_words : goal.decreases-are_words
+decreases-are_words l = length l.types.now

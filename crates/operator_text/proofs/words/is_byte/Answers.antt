@@ -1,0 +1,6 @@
+use Rattle.std.proofs.Common.{refl}
+use Rattle.operator_text.proofs.WordTests.{byte_read}
+use Rattle.operator_text.proofs.words.is_byte.Goals as goal
+
+pub returns-in-Some : goal.returns-in-Some
+returns-in-Some c = (λ h. byte_read _ _ c.in-Some.ensures, λ w. refl)

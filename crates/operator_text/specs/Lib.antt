@@ -1,0 +1,4 @@
+pub mod LineForms
+pub mod Names
+pub mod WordValues
+pub mod Spelling

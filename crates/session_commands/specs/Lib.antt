@@ -1,0 +1,2 @@
+pub mod SessionCommands
+pub mod Sessions
