@@ -1,6 +1,4 @@
 // Lines that spell commands, comments and bad lines, against rows that a script computed.
-ghost use Rattle.std.specs.Prelude.{◌≡◌, IfOk, length};
-
 use crate::line_rows::{
     BAD_BYTES, BAD_NAMES, BAD_NUMBERS, BAD_SPACES, COMMENTS, MANAGING, ONE_WORD_FEWER,
     ONE_WORD_MORE, OTHER_SIGNS, SERVING,
@@ -101,35 +99,35 @@ fn comments_make_no_command(rt: HostRuntime) -> Result<(), Fail> {
 }
 
 // A line of so many equal signs.
-fn equal_signs(alloc: Global, sign: u8, count: usize) -> Result<Vec<u8>, AllocError>
-    ensures { IfOk result (λ line. length line.items ≡ count) }
-{
+fn equal_signs(alloc: Global, sign: u8, count: usize) -> Result<Vec<u8>, AllocError> {
     vec![in alloc; sign; count]
+}
+
+// The line that enters bytes, with so many digits.
+fn bytes_line(alloc: Global, digits: usize) -> Result<Vec<u8>, AllocError> {
+    let mut line = b"bytes ".to_vec(alloc)?;
+    line.extend_from_slice(&equal_signs(alloc, b'7', digits)?)?;
+    Ok(line)
 }
 
 #[test]
 fn a_longer_line_is_bad_also_as_a_comment(rt: HostRuntime) -> Result<(), Fail> {
     let mut command = Command::new(rt.alloc())?;
-    let line = equal_signs(rt.alloc(), b'#', LARGEST_LINE + 1)?;
-    assert_eq!(rt;
-        read_line(&line[..LARGEST_LINE], &mut command),
-        LineRead::Comment
-    );
-    assert!(rt; is_bad(&line, &mut command));
+    let longest = equal_signs(rt.alloc(), b'#', LARGEST_LINE)?;
+    assert_eq!(rt; read_line(&longest, &mut command), LineRead::Comment);
+    let longer = equal_signs(rt.alloc(), b'#', LARGEST_LINE + 1)?;
+    assert!(rt; is_bad(&longer, &mut command));
     Ok(())
 }
 
 #[test]
 fn a_body_has_at_most_65600_bytes(rt: HostRuntime) -> Result<(), Fail> {
     let mut command = Command::new(rt.alloc())?;
-    let mut line = equal_signs(rt.alloc(), b'7', 131_208)?;
-    line[..6].copy_from_slice(b"bytes ");
-    assert_eq!(rt;
-        read_line(&line[..131_206], &mut command),
-        LineRead::Command
-    );
+    let longest = bytes_line(rt.alloc(), 131_200)?;
+    assert_eq!(rt; read_line(&longest, &mut command), LineRead::Command);
     assert_eq!(rt; command.body().len(), 65_600);
-    assert!(rt; is_bad(&line, &mut command));
+    let longer = bytes_line(rt.alloc(), 131_202)?;
+    assert!(rt; is_bad(&longer, &mut command));
     Ok(())
 }
 
