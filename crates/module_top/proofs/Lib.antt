@@ -1,5 +1,4 @@
 pub mod CommandRuns
-pub mod ResultCases
 pub mod ChunkSteps
 pub mod StreamEnds
 pub mod ProgramOutputs

@@ -3,7 +3,7 @@ use Rattle.outside.specs.Contents.{Appends}
 use Rattle.outside.proofs.Explanations.{explained_by}
 use Rattle.module_frames.specs.ReplyFrames.{ReplyFrame}
 use Rattle.stream_calls.specs.PartialWrites.{AppendsPart}
-use Rattle.command_serving.proofs.ResultCases.{on_err}
+use Rattle.stream_calls.proofs.ResultCases.{on_err}
 use Rattle.command_serving.proofs.answering.answer.Goals as goal
 
 pub returns-clause-whole : goal.returns-clause-whole

@@ -3,7 +3,7 @@ use Rattle.outside.specs.Contents.{Appends}
 use Rattle.module_frames.specs.Replies.{frame_of}
 use Rattle.module_frames.specs.ReplyFrames.{reply_header, reply_encoding}
 use Rattle.stream_calls.specs.PartialWrites.{AppendsPart}
-use Rattle.command_serving.proofs.ResultCases.{on_err, on_err_then}
+use Rattle.stream_calls.proofs.ResultCases.{on_err, on_err_then}
 use Rattle.stream_calls.proofs.PartialWrites.{part_in_front, part_behind}
 use Rattle.command_serving.proofs.frame_codec.send.Goals as goal
 

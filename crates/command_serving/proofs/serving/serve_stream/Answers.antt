@@ -53,7 +53,7 @@ returns-in-Ok-eq0-clause-served g c s represents =
     let zero : c.in-Ok-eq0.field-0 ≡ 0 = omega (arith, c.in-Ok-eq0.field-0-test) in
     let none = rw zero at c.in-Ok-eq0.ensures.taken in
     let over = c.in-Ok-eq0.ensures.end zero in
-    let consumes = subst (λ taken. Consumes (g.S.Source.left c.args.commands.now) taken (g.S.Source.left c.read_some.new.commands)) (append-nil so_far.0) (consumes_both _ _ _ so_far.0 [] so_far.1 none) in
+    let consumes = subst (λ taken. Consumes (g.S.Source.left c.args.commands.now) taken (g.S.Source.left c.read_some.new.source)) (append-nil so_far.0) (consumes_both _ _ _ so_far.0 [] so_far.1 none) in
     let below : length so_far.0 < STREAM_MAX = omega (arith, so_far.2, c.loop-taken-test.true) in
     let all = all_of _ _ so_far.0 so_far.1 over in
     elim (write_failed_or_not c.serve_end.result) [
