@@ -5,7 +5,8 @@ use Rattle.module_top.specs.declared.faults.RunFault.TheVariants as fault
 
 abbrev pub fault_of : ℕ → Option RunFault
 fault_of status =
-    if status == 2 then Some fault.Usage
+    if status == 1 then Some fault.VectorFailed
+    else if status == 2 then Some fault.Usage
     else if status == 3 then Some fault.BadFrame
     else if status == 4 then Some fault.Truncated
     else if status == 5 then Some fault.ReadFailed
@@ -13,12 +14,14 @@ fault_of status =
     else if status == 7 then Some fault.OutOfMemory
     else if status == 8 then Some fault.FileFailed
     else if status == 9 then Some fault.ImageTooLong
+    else if status == 10 then Some fault.BadLine
     else if status == 11 then Some fault.BadDigest
     else if status == 12 then Some fault.StreamTooLong
     else None
 
 -- the exit status for a fault
 abbrev pub status_of : RunFault → ℕ
+status_of fault.VectorFailed = 1
 status_of fault.Usage = 2
 status_of fault.BadFrame = 3
 status_of fault.Truncated = 4
@@ -27,6 +30,7 @@ status_of fault.WriteFailed = 6
 status_of fault.OutOfMemory = 7
 status_of fault.FileFailed = 8
 status_of fault.ImageTooLong = 9
+status_of fault.BadLine = 10
 status_of fault.BadDigest = 11
 status_of fault.StreamTooLong = 12
 
@@ -36,7 +40,8 @@ result_status (Ok done) = 0
 result_status (Err fault) = status_of fault
 
 abbrev pub text_of : RunFault → List ℕ
-text_of fault.Usage = codes "usage: serve or digest"
+text_of fault.VectorFailed = codes "a vector failed"
+text_of fault.Usage = codes "usage: serve, operate, digest, session or vectors"
 text_of fault.BadFrame = codes "bad frame"
 text_of fault.Truncated = codes "truncated frame"
 text_of fault.ReadFailed = codes "read failed"
@@ -44,5 +49,6 @@ text_of fault.WriteFailed = codes "write failed"
 text_of fault.OutOfMemory = codes "out of memory"
 text_of fault.FileFailed = codes "file failed"
 text_of fault.ImageTooLong = codes "image too long"
+text_of fault.BadLine = codes "bad line"
 text_of fault.BadDigest = codes "bad digest file"
 text_of fault.StreamTooLong = codes "stream too long"

@@ -7,6 +7,8 @@ use std::fmt;
 /// The reason for an exit status other than 0.
 #[derive(Clone, Copy, Debug, PartialEq, Eq)]
 pub enum RunFault {
+    /// 1: a vector failed.
+    VectorFailed,
     /// 2: the words are no form that the program knows.
     Usage,
     /// 3: the bytes of the input show a fault.
@@ -23,6 +25,8 @@ pub enum RunFault {
     FileFailed,
     /// 9: the image has more than 16,777,216 bytes.
     ImageTooLong,
+    /// 10: a line is bad.
+    BadLine,
     /// 11: the digest file isn't 64 hex digits and at most one LF.
     BadDigest,
     /// 12: the input has 2^40 bytes or more.
@@ -35,6 +39,7 @@ impl RunFault {
         ensures { result ≡ fault_of status }
     {
         match status {
+            1 => Some(RunFault::VectorFailed),
             2 => Some(RunFault::Usage),
             3 => Some(RunFault::BadFrame),
             4 => Some(RunFault::Truncated),
@@ -43,6 +48,7 @@ impl RunFault {
             7 => Some(RunFault::OutOfMemory),
             8 => Some(RunFault::FileFailed),
             9 => Some(RunFault::ImageTooLong),
+            10 => Some(RunFault::BadLine),
             11 => Some(RunFault::BadDigest),
             12 => Some(RunFault::StreamTooLong),
             _ => None,
@@ -54,6 +60,7 @@ impl RunFault {
         ensures { result ≡ status_of self }
     {
         match self {
+            RunFault::VectorFailed => 1,
             RunFault::Usage => 2,
             RunFault::BadFrame => 3,
             RunFault::Truncated => 4,
@@ -62,6 +69,7 @@ impl RunFault {
             RunFault::OutOfMemory => 7,
             RunFault::FileFailed => 8,
             RunFault::ImageTooLong => 9,
+            RunFault::BadLine => 10,
             RunFault::BadDigest => 11,
             RunFault::StreamTooLong => 12,
         }
@@ -77,7 +85,8 @@ impl fmt::Display for RunFault {
 
     fn fmt<W: fmt::Write>(&self, f: &mut fmt::Formatter<W>) -> fmt::Result {
         f.write_str(match self {
-            RunFault::Usage => "usage: serve or digest",
+            RunFault::VectorFailed => "a vector failed",
+            RunFault::Usage => "usage: serve, operate, digest, session or vectors",
             RunFault::BadFrame => "bad frame",
             RunFault::Truncated => "truncated frame",
             RunFault::ReadFailed => "read failed",
@@ -85,6 +94,7 @@ impl fmt::Display for RunFault {
             RunFault::OutOfMemory => "out of memory",
             RunFault::FileFailed => "file failed",
             RunFault::ImageTooLong => "image too long",
+            RunFault::BadLine => "bad line",
             RunFault::BadDigest => "bad digest file",
             RunFault::StreamTooLong => "stream too long",
         })

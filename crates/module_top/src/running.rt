@@ -26,62 +26,10 @@ use outside::{Files, Noise, Sink, Source};
 use state_model::Module;
 use std::alloc::{AllocError, Global};
 
-// Takes all the memory, the module's last, and then serves; however that ends, the module is shut and closed. Without memory nothing is
-// read or written.
-fn open_and_serve<E: Engine, N: Noise, S: Source, K: Sink>(
+// Loads image and digest, opens the noise, and does the work on a module with them.
+fn work_on_files<E: Engine, F: Files, S: Source, K: Sink>(
     alloc: Global,
-    engine: E,
-    image: Vec<u8>,
-    digest: [u8; 32],
-    noise: &mut N,
-    commands: &mut S,
-    replies: &mut K,
-) -> Result<Ended, AllocError>
-    ensures served { IfOk result (λ ending. (view : ModuleView E) × Explained (N.left noise.old) (N.left noise.new)
-        (Serves frame_grammar E.calls ending CHUNK (initial_state engine image.items digest) view
-        (record { left = S.left commands.old; gained = K.gained replies.old })
-        (record { left = S.left commands.new; gained = K.gained replies.new }))) }
-    ensures untouched { OnErr result ((commands.new ≡ commands.old) × (replies.new ≡ replies.old)) }
-    ensures read_fault { IfOk result (λ ending. ending ≡ Ended.ReadFault → FaultCounted (S.faults commands.old) (S.faults commands.new)) }
-    ensures reads_unchanged { IfOk result (λ ending. ending ≢ Ended.ReadFault → S.faults commands.new ≡ S.faults commands.old) }
-    ensures write_fault { IfOk result (λ ending. ending ≡ Ended.WriteFault → FaultCounted (K.faults replies.old) (K.faults replies.new)) }
-    ensures writes_unchanged { IfOk result (λ ending. ending ≢ Ended.WriteFault → K.faults replies.new ≡ K.faults replies.old) }
-{
-    let mut frames = Frames::new(alloc)?;
-    let mut reply = Reply::new(alloc)?;
-    let mut chunk = vec![in alloc; 0; CHUNK]?;
-    let mut module = Module::open(alloc, engine, image, digest)?;
-    let ended = serve(
-        &mut module,
-        noise,
-        commands,
-        replies,
-        &mut frames,
-        &mut reply,
-        &mut chunk,
-    );
-    module.shut();
-    module.close();
-    Ok(ended)
-}
-
-// The fault for how serving ended, where that wasn't at the end of the input.
-fn result_of(ended: Ended) -> Result<(), RunFault>
-    ensures { result_status result ≡ exit_status ended }
-{
-    match ended {
-        Ended::End => Ok(()),
-        Ended::BadFrame(_) => Err(RunFault::BadFrame),
-        Ended::Truncated => Err(RunFault::Truncated),
-        Ended::ReadFault => Err(RunFault::ReadFailed),
-        Ended::WriteFault => Err(RunFault::WriteFailed),
-        Ended::Limit => Err(RunFault::StreamTooLong),
-    }
-}
-
-// Loads image and digest, opens the noise, and serves.
-fn serve_files<E: Engine, F: Files, S: Source, K: Sink>(
-    alloc: Global,
+    work: Work,
     image_name: &str,
     digest_name: &str,
     noise_name: &str,
@@ -90,7 +38,7 @@ fn serve_files<E: Engine, F: Files, S: Source, K: Sink>(
     replies: &mut K,
     engine: E,
 ) -> Result<(), RunFault>
-    ensures outcome { IsOutcome E.calls engine (F.content files.old) (Some (Serve image_name.now digest_name.now noise_name.now)) (result_status result)
+    ensures outcome { IsOutcome E.calls engine (F.content files.old) (Some (OnModule work image_name.now digest_name.now noise_name.now)) (result_status result)
         (record {
           source = commands.old;
           sink = replies.old;
@@ -111,10 +59,7 @@ fn serve_files<E: Engine, F: Files, S: Source, K: Sink>(
     let image = load_image(alloc, files, image_name)?;
     let digest = load_digest(alloc, files, digest_name)?;
     let mut noise = open_noise(files, noise_name)?;
-    match open_and_serve(alloc, engine, image, digest, &mut noise, commands, replies) {
-        Ok(ended) => result_of(ended),
-        Err(_) => Err(RunFault::OutOfMemory),
-    }
+    do_work(alloc, work, engine, image, digest, &mut noise, commands, replies)
 }
 
 // Does what the words say.
@@ -148,15 +93,17 @@ fn perform<E: Engine, F: Files, S: Source, K: Sink>(
     match form_of(words) {
         None => Err(RunFault::Usage),
         Some(
-            Form::Serve {
+            Form::OnModule {
+                work,
                 image,
                 digest,
                 noise,
             },
-        ) => serve_files(
-            alloc, image, digest, noise, files, commands, replies, engine,
+        ) => work_on_files(
+            alloc, work, image, digest, noise, files, commands, replies, engine,
         ),
         Some(Form::Digest { image }) => digest_image(alloc, image, files, replies, engine),
+        Some(Form::Vectors) => check_vectors(alloc, files, commands, replies, engine),
     }
 }
 
