@@ -1,11 +1,8 @@
-pub mod CommandRuns
-pub mod ChunkSteps
-pub mod StreamEnds
-pub mod ProgramOutputs
 pub mod NamedFiles
 pub mod DigestLines
+pub mod WorkRuns
+pub mod WorkOutcomes
 pub mod OneOutput
 pub mod RunOutcomes
-pub mod PartialWrites
-pub mod SecretStreams
+pub mod WorkSecrets
 pub mod SecretOutputs

@@ -1,11 +1,6 @@
-pub mod Grammars
-pub mod FrameGrammar
-pub mod Decoding
-pub mod PartialWrites
-pub mod Run
-pub mod Chunks
-pub mod Serving
+pub mod Forms
 pub mod DigestFile
+pub mod Works
 pub mod Program
 pub mod Outcomes
 pub mod Faults

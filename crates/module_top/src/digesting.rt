@@ -2,17 +2,17 @@
 ghost use Rattle.std.specs.Prelude.{◌≡◌, ◌++◌, [], ◌∷◌, Some, None};
 ghost use Rattle.hex.specs.Hex.{encode_lower};
 ghost use Rattle.module_top.specs.Faults.{result_status};
-ghost use Rattle.module_top.specs.Program.{Digest};
+ghost use Rattle.module_top.specs.Forms.{Digest};
 ghost use Rattle.module_top.specs.Outcomes.{IsOutcome};
 
 use crate::faults::RunFault;
 use crate::loading::load_image;
-use crate::writing::write_all;
 use engine_core::Engine;
 use hex::encode_to_slice;
 use outside::{Files, Sink};
 use self_tests::image_digest;
 use std::alloc::Global;
+use stream_calls::write_all;
 
 // A digest as 64 lower-case hex digits and an LF.
 fn line_of(digest: &[u8; 32]) -> [u8; 65]

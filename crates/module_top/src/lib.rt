@@ -1,27 +1,23 @@
 //! From bytes to bytes: a stream of commands is served, and the program runs on its words.
 #![tactic(auto)]
 
-mod answering;
-mod codec;
 mod digest_file;
 mod digesting;
 mod faults;
 #[cfg(test)]
 mod file_tests;
-mod frame_codec;
 mod laws;
 mod limits;
 mod loading;
 #[cfg(test)]
 mod run_tests;
+mod reporting;
 mod running;
-mod serving;
 #[cfg(test)]
 mod tests;
 mod words;
-mod writing;
+mod working;
 
 pub use faults::RunFault;
 pub use laws::{digest_line_is_read, has_one_output};
 pub use running::run;
-pub use serving::{Ended, serve};

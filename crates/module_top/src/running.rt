@@ -1,30 +1,24 @@
 // The program, from its words, its files and its input to its exit status and its output.
-ghost use Rattle.std.specs.Prelude.{◌≡◌, ◌≢◌, ◌↔◌, ◌++◌, ℕ, List, Some, None, false, true, IfOk, IfSome, OnErr, map};
+ghost use Rattle.std.specs.Prelude.{◌≡◌, ◌≢◌, ◌↔◌, ◌++◌, ℕ, List, Some, None, false, true, IfSome, map};
 ghost use Rattle.std.specs.String.{string_bytes};
-ghost use Rattle.outside.specs.Explained.{Explained};
 ghost use Rattle.outside.specs.Faults.{FaultCounted};
 ghost use Rattle.outside.specs.FilesContent.{FilesContent};
 ghost use Rattle.engine_core.specs.Calls.{IsStandard};
-ghost use Rattle.state_model.specs.ModuleView.{ModuleView};
-ghost use Rattle.state_model.specs.MachineState.{initial_state};
-ghost use Rattle.module_top.specs.FrameGrammar.{frame_grammar};
-ghost use Rattle.module_top.specs.Serving.{Serves};
-ghost use Rattle.module_top.specs.Secrets.{OutputKeepsSecrets};
 ghost use Rattle.module_top.specs.Faults.{result_status};
-ghost use Rattle.module_top.specs.Program.{Serve, Digest, form_of, exit_status, IsProgramOutput};
-ghost use Rattle.module_top.specs.Outcomes.{is_refusal, HasLongImage, HasBadDigest, IsWorkOf, IsOutcome};
+ghost use Rattle.module_top.specs.Forms.{FormValue, OnModule, form_of};
+ghost use Rattle.module_top.specs.Program.{IsProgramOutput};
+ghost use Rattle.module_top.specs.Outcomes.{is_refusal, reads_source, HasLongImage, HasBadDigest, IsWorkOf, IsOutcome, ReadsStay};
+ghost use Rattle.module_top.specs.Secrets.{OutputKeepsSecrets};
 
 use crate::digesting::digest_image;
 use crate::faults::RunFault;
-use crate::limits::CHUNK;
 use crate::loading::{load_digest, load_image, open_noise};
-use crate::serving::{Ended, serve};
-use crate::words::{Form, form_of};
+use crate::reporting::check_vectors;
+use crate::words::{Form, Work, form_of};
+use crate::working::do_work;
 use engine_core::Engine;
-use module_frames::{Frames, Reply};
-use outside::{Files, Noise, Sink, Source};
-use state_model::Module;
-use std::alloc::{AllocError, Global};
+use outside::{Files, Sink, Source};
+use std::alloc::Global;
 
 // Loads image and digest, opens the noise, and does the work on a module with them.
 fn work_on_files<E: Engine, F: Files, S: Source, K: Sink>(
@@ -138,8 +132,8 @@ pub fn run<E: Engine, F: Files, S: Source, K: Sink>(
         K.gained replies.old ≡ Some before → result ≢ 5 → result ≢ 6 → result ≢ 7 → result ≢ 8 →
         (out : List ℕ) × IsProgramOutput E.calls engine (map string_bytes words.now) all bytes result out × (K.gained replies.new ≡ Some (before ++ out)) }
 
-    // With an engine that answers as the standards say, a run of `serve` keeps its secrets: for other input that differs from this in
-    // entered parameters alone, the status is the same, and so is each reply to a command that observes nothing made from them.
+    // With an engine that answers as the standards say, a run of `serve` and of `operate` keeps its secrets: for other input that differs
+    // from this in entered parameters alone, the status is the same, and so is each reply to a command that observes nothing made from them.
     ensures secrets { IsStandard E.calls → (all : FilesContent) (bytes before : List ℕ) → F.content files.old ≡ Some all → S.left commands.old ≡ Some bytes →
         K.gained replies.old ≡ Some before → result ≢ 5 → result ≢ 6 → result ≢ 7 → result ≢ 8 →
         (out : List ℕ) × (K.gained replies.new ≡ Some (before ++ out))
@@ -149,9 +143,9 @@ pub fn run<E: Engine, F: Files, S: Source, K: Sink>(
     ensures usage { (result ≡ 2) ↔ (form_of (map string_bytes words.now) ≡ None) }
     ensures no_file { result ≡ 2 → files.new ≡ files.old }
 
-    // A run that is refused leaves source and sink as they were, and that of `digest` the source in any case.
+    // A run that is refused leaves source and sink as they were, and that of `digest` and of `session` the source in any case.
     ensures untouched { is_refusal result ≡ true → (commands.new ≡ commands.old) × (replies.new ≡ replies.old) }
-    ensures source_stays { (image : List ℕ) → form_of (map string_bytes words.now) ≡ Some (Digest image) → commands.new ≡ commands.old }
+    ensures source_stays { (form : FormValue) → form_of (map string_bytes words.now) ≡ Some form → reads_source form ≡ false → commands.new ≡ commands.old }
 
     // A file is refused exactly where it is too long or not of its form.
     ensures image_too_long { IfSome (F.content files.old) (λ all. result ≢ 7 → result ≢ 8 → (result ≡ 9) ↔ HasLongImage all (form_of (map string_bytes words.now))) }
@@ -166,7 +160,7 @@ pub fn run<E: Engine, F: Files, S: Source, K: Sink>(
     ensures file_fault { result ≡ 8 → FaultCounted (F.faults files.old) (F.faults files.new) }
     ensures files_unchanged { result ≢ 8 → F.faults files.new ≡ F.faults files.old }
     ensures read_fault { result ≡ 5 → FaultCounted (S.faults commands.old) (S.faults commands.new) }
-    ensures reads_unchanged { result ≢ 5 → S.faults commands.new ≡ S.faults commands.old }
+    ensures reads_unchanged { result ≢ 5 → ReadsStay (form_of (map string_bytes words.now)) result (S.faults commands.old) (S.faults commands.new) }
     ensures write_fault { result ≡ 6 → FaultCounted (K.faults replies.old) (K.faults replies.new) }
     ensures writes_unchanged { result ≢ 6 → K.faults replies.new ≡ K.faults replies.old }
 {

@@ -2,9 +2,9 @@ use Rattle.std.proofs.Common.{◌≡◌, ℕ, ap, subst, length, ◌∙◌}
 use Rattle.std.proofs.lemmas.List.{length-replicate}
 use Rattle.outside.specs.Explained.{Explained}
 use Rattle.state_model.specs.MachineState.{initial_state}
-use Rattle.module_top.specs.FrameGrammar.{frame_grammar}
-use Rattle.module_top.specs.Serving.{Serves}
-use Rattle.module_top.proofs.running.open_and_serve.Goals as goal
+use Rattle.command_serving.specs.FrameGrammar.{frame_grammar}
+use Rattle.command_serving.specs.Serving.{Serves}
+use Rattle.module_top.proofs.working.open_and_serve.Goals as goal
 
 pub returns-clause-served : goal.returns-clause-served
 returns-clause-served g c =

@@ -1,0 +1,88 @@
+-- What a work leaves, by where it ended.
+use Rattle.std.proofs.Common.{◌≡◌, ◌≢◌, ℕ, Option, Bool, true, false, List, refl, sym, ◌∙◌, ap, arith}
+use Rattle.outside.specs.Faults.{FaultCounted}
+use Rattle.outside.specs.Explained.{Explained}
+use Rattle.outside.specs.declared.traits.Sample.{Sample}
+use Rattle.outside.proofs.Explanations.{explained_by}
+use Rattle.engine_core.specs.Calls.{Calls}
+use Rattle.state_model.specs.ModuleView.{ModuleView}
+use Rattle.state_model.specs.MachineState.{MachineState}
+use Rattle.stream_calls.specs.declared.limits.TheConstants.{CHUNK}
+use Rattle.command_serving.specs.declared.serving.Ended.{Ended}
+use Rattle.command_serving.specs.declared.serving.Ended.TheVariants as ended
+use Rattle.command_serving.specs.FrameGrammar.{frame_grammar}
+use Rattle.command_serving.specs.Serving.{Serves}
+use Rattle.module_top.specs.declared.words.Work.{Work}
+use Rattle.module_top.specs.declared.words.Work.TheVariants as work
+use Rattle.module_top.specs.Outcomes.{is_refusal, Outside, IsWorkOutcome}
+use Rattle.module_top.specs.Works.{exit_status}
+
+-- there was no memory
+pub no_work : {V S K : Type 0} (w : Work) (calls : Calls V) (s : MachineState V) (noise noise' : Option (List Sample)) (before : Outside S K) → IsWorkOutcome w calls s noise noise' 7 before before
+no_work w calls s noise noise' before = record {
+  only_memory = λ _. refl;
+  untouched = λ _. (refl, refl);
+  worked = λ other. absurd (other refl);
+  source_stays = λ _. refl;
+  read_fault = λ e. omega arith;
+  reads_unchanged = λ _. refl;
+  write_fault = λ e. omega arith;
+  writes_unchanged = λ _. refl;
+}
+
+-- it says nothing of files
+pub beside_files : {V S K : Type 0} (w : Work) (calls : Calls V) (s : MachineState V) (noise noise' : Option (List Sample)) (status : ℕ) (before after : Outside S K)
+    → IsWorkOutcome w calls s noise noise' status (record before { file_faults = 0 }) (record after { file_faults = 0 }) → IsWorkOutcome w calls s noise noise' status before after
+beside_files w calls s noise noise' status before after outcome = record {
+  only_memory = outcome.only_memory;
+  untouched = outcome.untouched;
+  worked = outcome.worked;
+  source_stays = outcome.source_stays;
+  read_fault = outcome.read_fault;
+  reads_unchanged = outcome.reads_unchanged;
+  write_fault = outcome.write_fault;
+  writes_unchanged = outcome.writes_unchanged;
+}
+
+-- the statuses of frames that were served are no refusals
+no_refusal : (ending : Ended) → is_refusal (exit_status ending) ≡ false
+no_refusal ended.End = refl
+no_refusal (ended.BadFrame number) = refl
+no_refusal ended.Truncated = refl
+no_refusal ended.ReadFault = refl
+no_refusal ended.WriteFault = refl
+no_refusal ended.Limit = refl
+
+read_fault_of : (ending : Ended) → exit_status ending ≡ 5 → ending ≡ ended.ReadFault
+read_fault_of ended.End h = absurd (omega (arith, h))
+read_fault_of (ended.BadFrame number) h = absurd (omega (arith, h))
+read_fault_of ended.Truncated h = absurd (omega (arith, h))
+read_fault_of ended.ReadFault h = refl
+read_fault_of ended.WriteFault h = absurd (omega (arith, h))
+read_fault_of ended.Limit h = absurd (omega (arith, h))
+
+write_fault_of : (ending : Ended) → exit_status ending ≡ 6 → ending ≡ ended.WriteFault
+write_fault_of ended.End h = absurd (omega (arith, h))
+write_fault_of (ended.BadFrame number) h = absurd (omega (arith, h))
+write_fault_of ended.Truncated h = absurd (omega (arith, h))
+write_fault_of ended.ReadFault h = absurd (omega (arith, h))
+write_fault_of ended.WriteFault h = refl
+write_fault_of ended.Limit h = absurd (omega (arith, h))
+
+-- frames were served
+pub frames_served : {V S K : Type 0} (calls : Calls V) (s : MachineState V) (ending : Ended) (status : ℕ) (noise noise' : Option (List Sample)) (view : ModuleView V) (before after : Outside S K) → status ≡ exit_status ending
+    → Explained noise noise' (Serves frame_grammar calls ending CHUNK s view before.streams after.streams)
+    → (ending ≡ ended.ReadFault → FaultCounted before.read_faults after.read_faults) → (ending ≢ ended.ReadFault → after.read_faults ≡ before.read_faults)
+    → (ending ≡ ended.WriteFault → FaultCounted before.write_faults after.write_faults) → (ending ≢ ended.WriteFault → after.write_faults ≡ before.write_faults)
+    → IsWorkOutcome work.Serve calls s noise noise' status before after
+frames_served calls s ending status noise noise' view before after is served read reads write writes =
+    let isn't : is_refusal status ≡ false = ap is_refusal is ∙ no_refusal ending in record {
+      only_memory = λ refusal. let never : true ≡ false = sym refusal ∙ isn't in cc never;
+      untouched = λ seven. let never : true ≡ false = sym (ap is_refusal seven) ∙ isn't in cc never;
+      worked = λ _. (view, explained_by _ _ served (λ events left serves. (ending, is, serves)));
+      source_stays = λ e. let never : true ≡ false = e in cc never;
+      read_fault = λ five. read (read_fault_of ending (sym is ∙ five));
+      reads_unchanged = λ other. reads (λ e. other (is ∙ ap exit_status e));
+      write_fault = λ six. write (write_fault_of ending (sym is ∙ six));
+      writes_unchanged = λ other. writes (λ e. other (is ∙ ap exit_status e));
+    }
