@@ -28,7 +28,8 @@ use Rattle.command_serving.specs.FrameGrammar.{frame_grammar, frame_grammar_is_l
 use Rattle.command_serving.specs.Grammars.{Grammar, IsLawful, IsParse}
 use Rattle.command_serving.specs.Run.{Runs, RunsStream, remainder_start, fault_or, ending_of, encoded_replies}
 use Rattle.command_serving.specs.Secrets.{AreVariantStreams, VariantsRunAlike, KeepsSecrets}
-use Rattle.command_serving.specs.Serving.{Streams, Serves, Answered}
+use Rattle.stream_calls.specs.Streams.{Streams}
+use Rattle.command_serving.specs.Serving.{Serves, Answered}
 
 -- a run, by its parts
 parts_of : {V : Type 0} (ran : Ran V) (left : List Sample) → left ≡ ran.left → ran ≡ record { machine = ran.machine; replies = ran.replies; left = left }

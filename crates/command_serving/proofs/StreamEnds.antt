@@ -14,7 +14,8 @@ use Rattle.command_serving.specs.Grammars.{Grammar, fault_number, IsLawful}
 use Rattle.command_serving.specs.Decoding.{IsReady}
 use Rattle.command_serving.specs.Run.{remainder_start, fault_or, ending_of}
 use Rattle.command_serving.specs.Chunks.{ServerState, ChunkServed, WriteFailed}
-use Rattle.command_serving.specs.Serving.{Streams, Answered, Serves, IsAllOf, IsReadToEnd, AskedNoFurther}
+use Rattle.stream_calls.specs.Streams.{Streams, IsAllOf}
+use Rattle.command_serving.specs.Serving.{Answered, Serves, IsReadToEnd, AskedNoFurther}
 use Rattle.command_serving.proofs.CommandRuns.{cut_both}
 
 -- what was served from the stream's beginning is the run over it

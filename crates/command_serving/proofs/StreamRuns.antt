@@ -12,7 +12,8 @@ use Rattle.command_serving.specs.declared.serving.Ended.{Ended}
 use Rattle.command_serving.specs.declared.serving.Ended.TheVariants as ended
 use Rattle.command_serving.specs.Grammars.{Grammar, fault_number, IsLawful}
 use Rattle.command_serving.specs.Run.{Runs, RunsStream, remainder_start, fault_or, ending_of, encoded_replies}
-use Rattle.command_serving.specs.Serving.{Streams, Answered, Serves, IsReadToEnd}
+use Rattle.stream_calls.specs.Streams.{Streams}
+use Rattle.command_serving.specs.Serving.{Answered, Serves, IsReadToEnd}
 use Rattle.stream_calls.specs.declared.limits.TheConstants.{STREAM_MAX}
 use Rattle.command_serving.proofs.StreamEnds.{shown_fault, broken_other, broken_ending}
 

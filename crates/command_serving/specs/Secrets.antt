@@ -13,7 +13,8 @@ use Rattle.command_serving.specs.declared.serving.Ended.{Ended}
 use Rattle.command_serving.specs.declared.serving.Ended.TheVariants as ended
 use Rattle.command_serving.specs.Grammars.{Grammar, IsParse}
 use Rattle.command_serving.specs.Run.{Runs, encoded_replies}
-use Rattle.command_serving.specs.Serving.{Streams, IsReading}
+use Rattle.stream_calls.specs.Streams.{Streams}
+use Rattle.command_serving.specs.Serving.{IsReading}
 
 -- these bytes and others parse into commands in pairs that differ in secrets alone, along the run of the one, and leave the same remainder
 pub record AreVariantStreams {V : Type 0} (grammar : Grammar) (calls : Calls V) (s : MachineState V) (events : List Sample) (bytes other : List ℕ) (pairs : List CommandPair) (remainder : List ℕ) : Type 0 where

@@ -1,5 +1,5 @@
 -- What serving a stream leaves, by how it ended.
-use Rattle.std.specs.Prelude.{◌≡◌, ◌≤◌, ◌<◌, ◌++◌, ◌⊎◌, ℕ, List, [], length, Option, None, IfSome}
+use Rattle.std.specs.Prelude.{◌≡◌, ◌≤◌, ◌<◌, ◌++◌, ◌⊎◌, ℕ, List, [], length, Option, None}
 use Rattle.outside.specs.Contents.{Consumes, Appends}
 use Rattle.outside.specs.declared.traits.Sample.{Sample}
 use Rattle.engine_core.specs.Calls.{Calls}
@@ -9,16 +9,12 @@ use Rattle.state_model.specs.ModuleView.{ModuleView}
 use Rattle.state_model.specs.MachineState.{MachineState}
 use Rattle.state_model.specs.Represents.{Represents}
 use Rattle.command_serving.specs.Grammars.{Grammar, IsParse}
+use Rattle.stream_calls.specs.Streams.{Streams, IsAllOf}
 use Rattle.stream_calls.specs.declared.limits.TheConstants.{STREAM_MAX}
 use Rattle.command_serving.specs.declared.serving.Ended.{Ended}
 use Rattle.command_serving.specs.declared.serving.Ended.TheVariants as ended
 use Rattle.command_serving.specs.Run.{Runs, remainder_start, ending_of, encoded_replies}
 use Rattle.command_serving.specs.Chunks.{ReplyCutOff}
-
--- the source and the sink, as far as they tell
-pub record Streams : Type 0 where
-  pub left : Option (List ℕ)
-  pub gained : Option (List ℕ)
 
 -- the run over the bytes read was done and answered
 pub record Answered {V : Type 0} (grammar : Grammar) (calls : Calls V) (s : MachineState V) (events : List Sample) (read remainder : List ℕ) (m : ModuleView V) (left : List Sample) (before after : Streams) : Type 0 where
@@ -27,10 +23,6 @@ pub record Answered {V : Type 0} (grammar : Grammar) (calls : Calls V) (s : Mach
   pub runs : Runs grammar calls s events read machine replies left remainder
   pub represents : Represents m machine
   pub gained : Appends before.gained (encoded_replies grammar replies) after.gained
-
--- where a content is told, these bytes are all of it
-abbrev pub IsAllOf : List ℕ → Option (List ℕ) → Type 0
-IsAllOf taken content = IfSome content (λ all. all ≡ taken)
 
 -- the source ended behind the bytes taken, and they were read so
 pub record IsReadToEnd (grammar : Grammar) (taken read : List ℕ) (content : Option (List ℕ)) : Type 0 where

@@ -9,7 +9,7 @@ use Rattle.outside.specs.declared.traits.Sample.{Sample}
 use Rattle.state_model.specs.MachineState.{MachineState, initial_state}
 use Rattle.state_model.specs.ModuleView.{ModuleView}
 use Rattle.stream_calls.specs.declared.limits.TheConstants.{CHUNK}
-use Rattle.command_serving.specs.Serving.{Streams}
+use Rattle.stream_calls.specs.Streams.{Streams}
 use Rattle.module_top.specs.declared.faults.RunFault.{RunFault}
 use Rattle.module_top.specs.declared.limits.TheConstants.{LARGEST_IMAGE}
 use Rattle.module_top.specs.declared.words.Work.{Work}

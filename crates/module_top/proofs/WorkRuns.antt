@@ -6,7 +6,7 @@ use Rattle.state_model.specs.ModuleView.{ModuleView}
 use Rattle.state_model.specs.MachineState.{MachineState}
 use Rattle.stream_calls.specs.declared.limits.TheConstants.{CHUNK}
 use Rattle.command_serving.specs.FrameGrammar.{frame_grammar, frame_grammar_is_lawful}
-use Rattle.command_serving.specs.Serving.{Streams}
+use Rattle.stream_calls.specs.Streams.{Streams}
 use Rattle.command_serving.proofs.StreamRuns.{stream_of}
 use Rattle.line_serving.proofs.LineRuns.{lines_of}
 use Rattle.module_top.specs.declared.words.Work.{Work}

@@ -6,9 +6,9 @@ use Rattle.outside.specs.Faults.{FaultCounted}
 use Rattle.outside.specs.FilesContent.{FilesContent, HasFile, HasFileAbove}
 use Rattle.outside.specs.declared.traits.Sample.{Sample}
 use Rattle.stream_calls.specs.declared.limits.TheConstants.{CHUNK}
-use Rattle.command_serving.specs.Serving.{Streams}
+use Rattle.stream_calls.specs.Streams.{Streams}
 use Rattle.vector_reports.specs.declared.reporting.Reported.{Reported}
-use Rattle.vector_reports.specs.VectorReports.{Reports}
+use Rattle.vector_reports.specs.Reporting.{Reports}
 use Rattle.state_model.specs.ModuleView.{ModuleView}
 use Rattle.state_model.specs.MachineState.{MachineState, initial_state}
 use Rattle.module_top.specs.declared.faults.RunFault.{RunFault}
@@ -76,7 +76,8 @@ abbrev pub IsWorkOf : {V : Type 0} → Calls V → V → Option FilesContent →
 IsWorkOf calls engine files None status before after = ⊥
 IsWorkOf calls engine files (Some (OnModule work image digest noise)) status before after = IsWorkedOn work calls engine files image digest noise status before after
 IsWorkOf calls engine files (Some (Digest image)) status before after = IsDigested calls engine files image status before.gained after.gained
-IsWorkOf calls engine files (Some Vectors) status before after = (answer : Reported) × (status ≡ report_status answer) × Reports calls engine answer CHUNK before after
+IsWorkOf {V} calls engine files (Some Vectors) status before after =
+    (answer : Reported) × (last : V) × (status ≡ report_status answer) × Reports calls answer CHUNK engine last before after
 
 -- the reads that failed are those of before, but where a failed write of a report came after a failed read
 abbrev pub ReadsStay : Option FormValue → (status before after : ℕ) → Type 0

@@ -8,7 +8,7 @@ use Rattle.self_tests.specs.Integrity.{image_digest}
 use Rattle.state_model.specs.MachineState.{initial_state}
 use Rattle.vector_reports.specs.declared.reporting.Reported.{Reported}
 use Rattle.vector_reports.specs.declared.reporting.Reported.TheVariants as reported
-use Rattle.vector_reports.specs.VectorReports.{RunsVectors}
+use Rattle.vector_reports.specs.Runs.{RunsVectors}
 use Rattle.module_top.specs.declared.limits.TheConstants.{LARGEST_IMAGE}
 use Rattle.module_top.specs.DigestFile.{digest_of}
 use Rattle.module_top.specs.Forms.{FormValue, OnModule, Digest, Vectors, form_of}

@@ -15,11 +15,12 @@ use Rattle.command_serving.specs.declared.serving.Ended.{Ended}
 use Rattle.command_serving.specs.declared.serving.Ended.TheVariants as ended
 use Rattle.command_serving.specs.FrameGrammar.{frame_grammar}
 use Rattle.command_serving.specs.Run.{RunsStream}
-use Rattle.command_serving.specs.Serving.{Streams, Serves}
+use Rattle.stream_calls.specs.Streams.{Streams}
+use Rattle.command_serving.specs.Serving.{Serves}
 use Rattle.line_serving.specs.declared.operating.Operated.{Operated}
 use Rattle.line_serving.specs.declared.operating.Operated.TheVariants as operated
 use Rattle.line_serving.specs.Operating.{Operates, RunsLines}
-use Rattle.session_runs.specs.Summary.{summary}
+use Rattle.session_runs.specs.Summaries.{summary}
 use Rattle.module_top.specs.declared.words.Work.{Work}
 use Rattle.module_top.specs.declared.words.Work.TheVariants as work
 

@@ -6,13 +6,16 @@ mod digesting;
 mod faults;
 #[cfg(test)]
 mod file_tests;
+mod frames_work;
 mod laws;
 mod limits;
+mod lines_work;
 mod loading;
 #[cfg(test)]
 mod run_tests;
 mod reporting;
 mod running;
+mod session_work;
 #[cfg(test)]
 mod tests;
 mod words;

@@ -11,3 +11,6 @@ pub const LARGEST_SEED: u64 = u64::MAX;
 
 /// The most commands that a session draws.
 pub const LARGEST_COUNT: u64 = 100_000;
+
+/// How many bytes a vector's check works in.
+pub const VECTOR_WORK: usize = 131_456;

@@ -97,7 +97,7 @@ fn perform<E: Engine, F: Files, S: Source, K: Sink>(
             alloc, work, image, digest, noise, files, commands, replies, engine,
         ),
         Some(Form::Digest { image }) => digest_image(alloc, image, files, replies, engine),
-        Some(Form::Vectors) => check_vectors(alloc, files, commands, replies, engine),
+        Some(Form::Vectors) => check_vectors(alloc, commands, replies, engine),
     }
 }
 

@@ -1,1 +1,2 @@
 pub mod PartialWrites
+pub mod Streams

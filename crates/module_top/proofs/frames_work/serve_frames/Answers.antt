@@ -1,7 +1,7 @@
 use Rattle.state_model.specs.MachineState.{initial_state}
 use Rattle.module_top.specs.declared.words.Work.TheVariants as work
 use Rattle.module_top.proofs.WorkOutcomes.{no_work, frames_served}
-use Rattle.module_top.proofs.working.serve_frames.Goals as goal
+use Rattle.module_top.proofs.frames_work.serve_frames.Goals as goal
 
 pub returns-in-Ok : goal.returns-in-Ok
 returns-in-Ok g c =
