@@ -1,10 +1,18 @@
 -- What a work leaves, by where it ended.
-use Rattle.std.proofs.Common.{◌≡◌, ◌≢◌, ℕ, Option, Bool, true, false, List, refl, sym, ◌∙◌, ap, arith}
+use Rattle.std.proofs.Common.{◌≡◌, ◌≢◌, inl, inr, ℕ, Option, Bool, true, false, List, refl, sym, ◌∙◌, ap, subst, arith}
+use Rattle.std.specs.Prelude.{Result, Ok, Err, OnOk, OnErr}
+use Rattle.outside.specs.Contents.{Appends}
 use Rattle.outside.specs.Faults.{FaultCounted}
 use Rattle.outside.specs.Explained.{Explained}
 use Rattle.outside.specs.declared.traits.Sample.{Sample}
 use Rattle.outside.proofs.Explanations.{explained_by}
 use Rattle.engine_core.specs.Calls.{Calls}
+use Rattle.module_frames.specs.CommandFrames.{CommandFrame}
+use Rattle.session_commands.specs.SessionCommands.{session_commands}
+use Rattle.session_runs.specs.SessionRuns.{RunsSession}
+use Rattle.session_runs.specs.Summaries.{summary}
+use Rattle.state_model.specs.Represents.{Represents}
+use Rattle.stream_calls.specs.PartialWrites.{AppendsPart}
 use Rattle.state_model.specs.ModuleView.{ModuleView}
 use Rattle.state_model.specs.MachineState.{MachineState}
 use Rattle.stream_calls.specs.declared.limits.TheConstants.{CHUNK}
@@ -15,7 +23,7 @@ use Rattle.command_serving.specs.Serving.{Serves}
 use Rattle.module_top.specs.declared.words.Work.{Work}
 use Rattle.module_top.specs.declared.words.Work.TheVariants as work
 use Rattle.module_top.specs.Outcomes.{is_refusal, Outside, IsWorkOutcome}
-use Rattle.module_top.specs.Works.{exit_status}
+use Rattle.module_top.specs.Works.{exit_status, written_status, SessionRun}
 
 -- there was no memory
 pub no_work : {V S K : Type 0} (w : Work) (calls : Calls V) (s : MachineState V) (noise noise' : Option (List Sample)) (before : Outside S K) → IsWorkOutcome w calls s noise noise' 7 before before
@@ -86,3 +94,56 @@ frames_served calls s ending status noise noise' view before after is served rea
       write_fault = λ six. write (write_fault_of ending (sym is ∙ six));
       writes_unchanged = λ other. writes (λ e. other (is ∙ ap exit_status e));
     }
+
+-- the statuses of a text that was written are no refusals
+pub no_written_refusal : {X E : Type 0} (written : Result X E) → is_refusal (written_status written) ≡ false
+no_written_refusal (Ok done) = refl
+no_written_refusal (Err failed) = refl
+
+-- the session was run, whose summary was written or not
+pub session_run : {V S K X E : Type 0} (calls : Calls V) (s : MachineState V) (seed count : ℕ) (written : Result X E) (status : ℕ) (noise noise' : Option (List Sample)) (view : ModuleView V) (before after : Outside S K)
+    → status ≡ written_status written → Explained noise noise' (SessionRun calls seed count s view (written_status written) before.streams.gained after.streams.gained)
+    → OnErr written (FaultCounted before.write_faults after.write_faults) → OnOk written (after.write_faults ≡ before.write_faults)
+    → after.source ≡ before.source → after.read_faults ≡ before.read_faults
+    → IsWorkOutcome (work.Session seed count) calls s noise noise' status before after
+session_run {V} {S} {K} calls s seed count written status noise noise' view before after is run counted uncounted source reads =
+    let isn't : is_refusal status ≡ false = ap is_refusal is ∙ no_written_refusal written in
+    let Run : ℕ → Type 0 = λ n. Explained noise noise' (SessionRun calls seed count s view n before.streams.gained after.streams.gained) in record {
+      only_memory = λ refusal. let never : true ≡ false = sym refusal ∙ isn't in cc never;
+      untouched = λ seven. let never : true ≡ false = sym (ap is_refusal seven) ∙ isn't in cc never;
+      worked = λ _. (view, subst Run (sym is) run);
+      source_stays = λ _. source;
+      read_fault = λ five. absurd (no_five written (sym is ∙ five));
+      reads_unchanged = λ _. reads;
+      write_fault = λ six. failed written counted (sym is ∙ six);
+      writes_unchanged = λ other. whole written uncounted (λ e. other (is ∙ e));
+    }
+  where
+    no_five : (w : Result X E) → written_status w ≡ 5 → ⊥
+    no_five (Ok done) e = omega (arith, e)
+    no_five (Err fault) e = omega (arith, e)
+
+    failed : (w : Result X E) → OnErr w (FaultCounted before.write_faults after.write_faults) → written_status w ≡ 6 → FaultCounted before.write_faults after.write_faults
+    failed (Ok done) h e = absurd (omega (arith, e))
+    failed (Err fault) h e = h
+
+    whole : (w : Result X E) → OnOk w (after.write_faults ≡ before.write_faults) → written_status w ≢ 6 → after.write_faults ≡ before.write_faults
+    whole (Ok done) h other = h
+    whole (Err fault) h other = absurd (other refl)
+
+-- what a session left of its commands, of which the machine was in one state before
+pub run_from : {V X E : Type 0} (calls : Calls V) (seed count : ℕ) (commands : List CommandFrame) (s : MachineState V) (old new : ModuleView V) (written : Result X E) (before after : Option (List ℕ)) (noise noise' : Option (List Sample))
+    → Represents old s → commands ≡ session_commands seed count
+    → OnOk written (Explained noise noise' (RunsSession calls commands old new (λ replies last. Appends before (summary replies last) after)))
+    → OnErr written (Explained noise noise' (RunsSession calls commands old new (λ replies last. AppendsPart before (summary replies last) after)))
+    → Explained noise noise' (SessionRun calls seed count s new (written_status written) before after)
+run_from calls seed count commands s old new (Ok done) before after noise noise' represents are whole part =
+    explained_by _ _ whole (λ events left runs.
+    let By : List CommandFrame → Type 0 = λ cs. RunsSession calls cs old new (λ replies last. Appends before (summary replies last) after) events left in
+    let ran = (subst By are runs) s represents in
+    record { represents = ran.0; noise_left = sym ran.1; written = inl (refl, ran.2) })
+run_from calls seed count commands s old new (Err fault) before after noise noise' represents are whole part =
+    explained_by _ _ part (λ events left runs.
+    let By : List CommandFrame → Type 0 = λ cs. RunsSession calls cs old new (λ replies last. AppendsPart before (summary replies last) after) events left in
+    let ran = (subst By are runs) s represents in
+    record { represents = ran.0; noise_left = sym ran.1; written = inr (refl, ran.2) })

@@ -1,5 +1,5 @@
 -- What a work on the module does, and what it leaves whatever its streams tell.
-use Rattle.std.specs.Prelude.{◌≡◌, ◌++◌, ◌⊎◌, ℕ, List, Option}
+use Rattle.std.specs.Prelude.{◌≡◌, ◌++◌, ◌⊎◌, ℕ, List, Option, Result, Ok, Err}
 use Rattle.outside.specs.Contents.{Appends}
 use Rattle.outside.specs.declared.traits.Sample.{Sample}
 use Rattle.engine_core.specs.Calls.{Calls}
@@ -56,6 +56,11 @@ RunsWork (work.Session seed count) calls s events bytes status out = (status ≡
 -- a text was written whole, or up to a failed write a part of it
 abbrev pub WritesText : (text : List ℕ) → (status : ℕ) → (before after : Option (List ℕ)) → Type 0
 WritesText text status before after = ((status ≡ 0) × Appends before text after) ⊎ ((status ≡ 6) × AppendsPart before text after)
+
+-- the exit status for how a write ended
+abbrev pub written_status : {X E : Type 0} → Result X E → ℕ
+written_status (Ok done) = 0
+written_status (Err failed) = 6
 
 -- the session was run, from s with these events of noise, and its summary written, or a part of it; the source is left alone
 pub record SessionRun {V : Type 0} (calls : Calls V) (seed count : ℕ) (s : MachineState V) (m : ModuleView V) (status : ℕ) (before after : Option (List ℕ)) (events left : List Sample) : Type 0 where

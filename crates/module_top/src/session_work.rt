@@ -1,14 +1,12 @@
 // A session, and its summary.
 ghost use Rattle.std.specs.Prelude.{◌≡◌, ◌≢◌, None, IfOk, OnOk, OnErr};
-ghost use Rattle.outside.specs.Contents.{Appends};
 ghost use Rattle.outside.specs.Explained.{Explained};
 ghost use Rattle.outside.specs.Faults.{FaultCounted};
 ghost use Rattle.state_model.specs.ModuleView.{ModuleView};
 ghost use Rattle.state_model.specs.MachineState.{initial_state};
-ghost use Rattle.stream_calls.specs.PartialWrites.{AppendsPart};
 ghost use Rattle.module_top.specs.Faults.{result_status};
 ghost use Rattle.module_top.specs.Outcomes.{IsWorkOutcome};
-ghost use Rattle.module_top.specs.Works.{SessionRun};
+ghost use Rattle.module_top.specs.Works.{SessionRun, written_status};
 ghost use Rattle.module_top.specs.declared.words.Work.TheVariants as work;
 
 use crate::faults::RunFault;

@@ -6,4 +6,5 @@ mod names;
 mod tests;
 mod writing;
 
+pub use names::state_name;
 pub use writing::write_line;

@@ -1,0 +1,4 @@
+mod Counting
+mod InOrder
+mod CommandSteps
+mod Rows

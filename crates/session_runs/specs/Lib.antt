@@ -1,0 +1,4 @@
+pub mod Summaries
+pub mod Tallies
+pub mod SessionRuns
+pub mod Laws
