@@ -1,5 +1,6 @@
 pub mod NamedFiles
 pub mod DigestLines
+pub mod SpelledNumbers
 pub mod WorkRuns
 pub mod WorkOutcomes
 pub mod OneOutput

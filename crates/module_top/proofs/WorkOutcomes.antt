@@ -1,5 +1,5 @@
 -- What a work leaves, by where it ended.
-use Rattle.std.proofs.Common.{◌≡◌, ◌≢◌, inl, inr, ℕ, Option, Bool, true, false, List, refl, sym, ◌∙◌, ap, subst, arith}
+use Rattle.std.proofs.Common.{◌≡◌, ◌≢◌, inl, inr, ℕ, Option, None, Bool, true, false, List, refl, sym, ◌∙◌, ap, subst, arith}
 use Rattle.std.specs.Prelude.{Result, Ok, Err, OnOk, OnErr}
 use Rattle.outside.specs.Contents.{Appends}
 use Rattle.outside.specs.Faults.{FaultCounted}
@@ -51,6 +51,29 @@ beside_files w calls s noise noise' status before after outcome = record {
   write_fault = outcome.write_fault;
   writes_unchanged = outcome.writes_unchanged;
 }
+
+-- a work that reads no source, beside one that it leaves alone
+pub beside_no_source : {V S K : Type 0} (seed count : ℕ) (calls : Calls V) (s : MachineState V) (noise noise' : Option (List Sample)) (status : ℕ) (source : S) (left : Option (List ℕ)) (read_faults : ℕ) (sink sink' : K)
+    (gained gained' : Option (List ℕ)) (write_faults write_faults' : ℕ)
+    → IsWorkOutcome (work.Session seed count) calls s noise noise' status
+    (record { source = tt {0}; sink = sink; streams = record { left = None; gained = gained }; file_faults = 0; read_faults = 0; write_faults = write_faults })
+    (record { source = tt {0}; sink = sink'; streams = record { left = None; gained = gained' }; file_faults = 0; read_faults = 0; write_faults = write_faults' })
+    → IsWorkOutcome (work.Session seed count) calls s noise noise' status
+    (record { source = source; sink = sink; streams = record { left = left; gained = gained }; file_faults = 0; read_faults = read_faults; write_faults = write_faults })
+    (record { source = source; sink = sink'; streams = record { left = left; gained = gained' }; file_faults = 0; read_faults = read_faults; write_faults = write_faults' })
+beside_no_source seed count calls s noise noise' status source left read_faults sink sink' gained gained' write_faults write_faults' outcome = record {
+  only_memory = outcome.only_memory;
+  untouched = λ seven. (refl, (outcome.untouched seven).1);
+  worked = outcome.worked;
+  source_stays = λ _. refl;
+  read_fault = λ five. absurd (never (outcome.read_fault five));
+  reads_unchanged = λ _. refl;
+  write_fault = outcome.write_fault;
+  writes_unchanged = outcome.writes_unchanged;
+}
+  where
+    never : FaultCounted 0 0 → ⊥
+    never h = omega arith
 
 -- the statuses of frames that were served are no refusals
 no_refusal : (ending : Ended) → is_refusal (exit_status ending) ≡ false
@@ -106,7 +129,7 @@ pub session_run : {V S K X E : Type 0} (calls : Calls V) (s : MachineState V) (s
     → OnErr written (FaultCounted before.write_faults after.write_faults) → OnOk written (after.write_faults ≡ before.write_faults)
     → after.source ≡ before.source → after.read_faults ≡ before.read_faults
     → IsWorkOutcome (work.Session seed count) calls s noise noise' status before after
-session_run {V} {S} {K} calls s seed count written status noise noise' view before after is run counted uncounted source reads =
+session_run {V} {S} {K} {X} {E} calls s seed count written status noise noise' view before after is run counted uncounted source reads =
     let isn't : is_refusal status ≡ false = ap is_refusal is ∙ no_written_refusal written in
     let Run : ℕ → Type 0 = λ n. Explained noise noise' (SessionRun calls seed count s view n before.streams.gained after.streams.gained) in record {
       only_memory = λ refusal. let never : true ≡ false = sym refusal ∙ isn't in cc never;

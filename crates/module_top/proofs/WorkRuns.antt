@@ -1,5 +1,5 @@
 -- From what a work leaves to its run.
-use Rattle.std.proofs.Common.{◌≡◌, ◌≢◌, ◌++◌, ℕ, List, Some, ap, ◌∙◌}
+use Rattle.std.proofs.Common.{◌≡◌, ◌≢◌, ◌++◌, inl, inr, ℕ, List, Some, refl, ap, ◌∙◌}
 use Rattle.outside.specs.declared.traits.Sample.{Sample}
 use Rattle.engine_core.specs.Calls.{Calls}
 use Rattle.state_model.specs.ModuleView.{ModuleView}

@@ -1,5 +1,5 @@
 -- The words after the program's name (forms of this project's own).
-use Rattle.std.specs.Prelude.{ℕ, ◌&&◌, nat_le, List, [], ◌∷◌, Option, Some, None, bytes_eq, codes, if◌then◌else◌}
+use Rattle.std.specs.Prelude.{ℕ, nat_le, List, [], ◌∷◌, Option, Some, None, bytes_eq, codes, if◌then◌else◌}
 use Rattle.std.specs.Option.{option_map}
 use Rattle.std.specs.Fmt.{decimal}
 use Rattle.std.specs.Str.Parse.{digits_value}
@@ -23,7 +23,7 @@ form_value form.Vectors = Vectors
 -- the number that a word spells in decimal digits, with no sign and no leading zero, where it isn't above the most
 abbrev pub spelled_number : ℕ → List ℕ → Option ℕ
 spelled_number most word =
-    if bytes_eq word (decimal (digits_value 10 word)) && nat_le (digits_value 10 word) most then Some (digits_value 10 word) else None
+    if bytes_eq word (decimal (digits_value 10 word)) then (if nat_le (digits_value 10 word) most then Some (digits_value 10 word) else None) else None
 
 -- the session of the seed and the count, where both words spell numbers
 abbrev pub session_of : Option ℕ → Option ℕ → Option Work

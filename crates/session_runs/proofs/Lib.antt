@@ -1,4 +1,4 @@
 mod Counting
-mod InOrder
+pub mod InOrder
 mod CommandSteps
 mod Rows

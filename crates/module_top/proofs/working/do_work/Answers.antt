@@ -1,0 +1,7 @@
+use Rattle.module_top.proofs.WorkOutcomes.{beside_no_source}
+use Rattle.module_top.proofs.working.do_work.Goals as goal
+
+pub returns-in-Session : goal.returns-in-Session
+returns-in-Session g c = record {
+  outcome = beside_no_source _ _ g.E.Engine.calls _ _ _ _ _ _ _ _ _ _ _ _ _ c.summarise.ensures.outcome;
+}
