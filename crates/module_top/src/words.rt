@@ -41,11 +41,11 @@ pub enum Form<'a> {
 ghost use Rattle.module_top.specs.Forms.{Digest, Vectors, form_of, form_value, on_module, session_work, spelled_number, stream_work};
 
 // The number that a word spells.
-fn spelled_number(word: &str, most: u64) -> Option<u64>
+fn spelled_number(word: &[u8], most: u64) -> Option<u64>
     ensures spelled { result ≡ spelled_number most word.now }
     ensures within { IfSome result (λ number. number ≤ most) }
 {
-    number_of(word.as_bytes(), most)
+    number_of(word, most)
 }
 
 // The work on commands that a word names.
@@ -66,8 +66,8 @@ fn session_work(word: &str, seed: &str, count: &str) -> Option<Work>
     if word != "session" {
         return None;
     }
-    let seed = spelled_number(seed, LARGEST_SEED)?;
-    let count = spelled_number(count, LARGEST_COUNT)? as u32;
+    let seed = spelled_number(seed.as_bytes(), LARGEST_SEED)?;
+    let count = spelled_number(count.as_bytes(), LARGEST_COUNT)? as u32;
     Some(Work::Session { seed, count })
 }
 
