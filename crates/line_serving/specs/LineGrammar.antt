@@ -1,10 +1,10 @@
 -- The grammar of lines.
-use Rattle.std.specs.Prelude.{◌++◌, ℕ, Bool, List, [], ◌∷◌, Option, Some, None, if◌then◌else◌}
+use Rattle.std.specs.Prelude.{◌++◌, ℕ, Bool, List, [], ◌∷◌, Some, None, if◌then◌else◌}
 use Rattle.line_input.specs.declared.limits.TheConstants.{LINE_FEED}
 use Rattle.reply_lines.specs.ReplyLines.{reply_line}
 use Rattle.command_serving.specs.Grammars.{Grammar}
-use Rattle.line_serving.specs.CommandLines.{AreCommandLines, BeginsNoGoodLine, BeginsBad, line_feeds}
-use Rattle.line_serving.proofs.Deciding.{truth, bad_or_not}
+use Rattle.command_lines.specs.CommandLines.{AreCommandLines, BeginsNoGoodLine, line_feeds}
+use Rattle.command_lines.proofs.Deciding.{truth, bad_or_not}
 
 -- whether the bytes begin with a bad line
 unfoldable pub begins_bad : (bytes : List ℕ) → Bool

@@ -1,0 +1,5 @@
+mod Choices
+mod FirstLines
+mod WordChoices
+pub mod Deciding
+pub mod Readings
