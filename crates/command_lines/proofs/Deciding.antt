@@ -5,7 +5,7 @@ use Rattle.line_input.specs.declared.limits.TheConstants.{LARGEST_LINE}
 use Rattle.line_input.specs.TextLines.{HasNoLineFeed}
 use Rattle.module_frames.specs.CommandFrames.{CommandFrame}
 use Rattle.operator_text.specs.Spelling.{Spells, IsComment}
-use Rattle.command_lines.specs.CommandLines.{IsBadLine, BeginsBad}
+use Rattle.command_lines.specs.CommandLines.{IsBadLine, BeginsNoGoodLine, BeginsBad}
 use Rattle.command_lines.proofs.Choices.{Choice, choice_of, within_or_not}
 use Rattle.command_lines.proofs.FirstLines.{HasFirstLine, first_or_none, first_apart, feed_between, one_first_line, front_within}
 use Rattle.command_lines.proofs.WordChoices.{spelled_or_not, comment_or_not}
@@ -36,6 +36,18 @@ unended_or_not bytes none = by_length (within_or_not (suc LARGEST_LINE) (length 
     by_length (inl long) = inl (inl (record { front = bytes; more = []; parts = sym (append-nil bytes); no_feed = none; many = omega (arith, long) }))
     by_length (inr within) = inr (not_bad within)
 
+-- bytes that begin with a bad line begin with no good one
+pub no_good_line : (bytes : List ℕ) → BeginsBad bytes → BeginsNoGoodLine bytes
+no_good_line bytes (inl long) line rest h e =
+    let many = long.many in
+    let less = front_within long.front long.more line rest long.no_feed (sym long.parts ∙ e) in record {
+      no_comment = λ comment. let within = comment.within in absurd (omega (arith, many, less, within));
+      no_command = λ command spelled. let within = spelled.within in absurd (omega (arith, many, less, within));
+    }
+no_good_line bytes (inr bad) line rest h e =
+    let same = one_first_line bad.line line bad.rest rest bad.no_feed h (sym bad.parts ∙ e) in
+    subst IsBadLine same.0 bad.bad
+
 -- where one ends, it is bad or not; one that is too long is bad
 ended_or_not : (bytes : List ℕ) → HasFirstLine bytes → Choice (BeginsBad bytes)
 ended_or_not bytes first = choice_of there back (bad_line_or_not first.line)
@@ -44,15 +56,7 @@ ended_or_not bytes first = choice_of there back (bad_line_or_not first.line)
     there bad = inr (record { line = first.line; rest = first.rest; no_feed = first.no_feed; parts = first.parts; bad = bad })
 
     back : BeginsBad bytes → IsBadLine first.line
-    back (inl long) =
-        let many = long.many in
-        let less = front_within long.front long.more first.line first.rest long.no_feed (sym long.parts ∙ first.parts) in record {
-          no_comment = λ comment. let within = comment.within in absurd (omega (arith, many, less, within));
-          no_command = λ command spelled. let within = spelled.within in absurd (omega (arith, many, less, within));
-        }
-    back (inr bad) =
-        let same = one_first_line bad.line first.line bad.rest first.rest bad.no_feed first.no_feed (sym bad.parts ∙ first.parts) in
-        subst IsBadLine same.0 bad.bad
+    back bad = no_good_line bytes bad first.line first.rest first.no_feed first.parts
 
 pub bad_or_not : (bytes : List ℕ) → BeginsBad bytes ⊎ (BeginsBad bytes → ⊥)
 bad_or_not bytes = by_feed (first_or_none bytes)

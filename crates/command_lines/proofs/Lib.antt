@@ -3,3 +3,5 @@ mod FirstLines
 mod WordChoices
 pub mod Deciding
 pub mod Readings
+pub mod Faults
+pub mod Counts

@@ -1,1 +1,2 @@
 pub mod LineGrammar
+pub mod LineLaws
