@@ -152,6 +152,13 @@ impl Lines {
         self.whole = false;
     }
 
+    /// Whether a whole line stands.
+    pub fn stands(&self) -> bool
+        ensures { result ≡ self.now.whole }
+    {
+        self.whole
+    }
+
     /// Whether no byte is held, of a line that stands or of the beginning of one.
     pub fn is_empty(&self) -> bool
         ensures { IsTrue result ↔ (self.now.text ≡ []) }

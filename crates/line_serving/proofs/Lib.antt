@@ -1,1 +1,3 @@
 pub mod LineFaults
+pub mod LineUnits
+pub mod LineDecoding

@@ -1,2 +1,4 @@
 pub mod LineGrammar
 pub mod LineLaws
+pub mod LineTaking
+pub mod LineCodecs

@@ -2,6 +2,11 @@
 #![tactic(auto)]
 
 mod laws;
+mod limits;
+mod line_codec;
+mod taking;
 
 pub use laws::{faults_are_bad_lines, lines_are_never_truncated};
+pub use limits::REPLY_ROOM;
+pub use line_codec::LineCodec;
 pub use line_input::{LARGEST_LINE, Lines};
