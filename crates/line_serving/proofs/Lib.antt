@@ -1,3 +1,4 @@
 pub mod LineFaults
 pub mod LineUnits
 pub mod LineDecoding
+pub mod ServedLines

@@ -7,8 +7,9 @@ ghost use Rattle.module_frames.specs.Fragments.{new_fragment};
 ghost use Rattle.module_frames.specs.Replies.{frame_of};
 ghost use Rattle.reply_lines.specs.ReplyLines.{reply_line};
 ghost use Rattle.stream_calls.specs.PartialWrites.{AppendsPart};
-ghost use Rattle.line_serving.specs.declared.limits.TheConstants.{REPLY_ROOM};
+ghost use Rattle.line_serving.specs.BadLines.{bad_line_text};
 
+use crate::bad_line::write_bad_line;
 use crate::limits::REPLY_ROOM;
 use crate::taking::{Taken, take_line};
 use bits_core::Outbox;
@@ -59,19 +60,31 @@ impl LineCodec {
     }
 }
 
-// Writes the line of a reply, which the outbox holds no more then.
-fn send_line<K: Sink>(reply: &Reply, outbox: &mut Outbox, replies: &mut K) -> Result<(), Failed>
-    requires { REPLY_ROOM ≤ outbox.old.room }
-    ensures whole { OnOk result (Appends (K.gained replies.old) (reply_line (frame_of reply.now)) (K.gained replies.new)) }
-    ensures part { OnErr result (AppendsPart (K.gained replies.old) (reply_line (frame_of reply.now)) (K.gained replies.new)) }
+// Writes what the outbox holds, which is no more held then.
+fn send_held<K: Sink>(outbox: &mut Outbox, replies: &mut K) -> Result<(), Failed>
+    ensures whole { OnOk result (Appends (K.gained replies.old) outbox.old.bytes (K.gained replies.new)) }
+    ensures part { OnErr result (AppendsPart (K.gained replies.old) outbox.old.bytes (K.gained replies.new)) }
     ensures fault_counted { OnErr result (FaultCounted (K.faults replies.old) (K.faults replies.new)) }
     ensures faults_unchanged { OnOk result (K.faults replies.new ≡ K.faults replies.old) }
     ensures gone { outbox.new ≡ holding [] outbox.old.room }
 {
-    write_line(reply, outbox);
     let written = write_all(replies, outbox.bytes());
     outbox.clear();
     written
+}
+
+impl LineCodec {
+    /// Writes the line that tells the number of a bad line, and holds what it held.
+    pub(crate) fn tell_bad_line<K: Sink>(&mut self, number: u64, replies: &mut K) -> Result<(), Failed>
+        ensures whole { OnOk result (Appends (K.gained replies.old) (bad_line_text number) (K.gained replies.new)) }
+        ensures part { OnErr result (AppendsPart (K.gained replies.old) (bad_line_text number) (K.gained replies.new)) }
+        ensures fault_counted { OnErr result (FaultCounted (K.faults replies.old) (K.faults replies.new)) }
+        ensures faults_unchanged { OnOk result (K.faults replies.new ≡ K.faults replies.old) }
+        ensures held { self.new ≡ self.old }
+    {
+        write_bad_line(number, &mut self.reply);
+        send_held(&mut self.reply, replies)
+    }
 }
 
 /// Each unit is a line, and makes a command or, as a comment, none. The number of a fault is its line's, counted from 1, and the end of the
@@ -122,6 +135,7 @@ impl Codec for LineCodec {
     }
 
     fn write<K: Sink>(&mut self, reply: &Reply, replies: &mut K) -> Result<(), Failed> {
-        send_line(reply, &mut self.reply, replies)
+        write_line(reply, &mut self.reply);
+        send_held(&mut self.reply, replies)
     }
 }
