@@ -4,3 +4,4 @@ pub mod LineTaking
 pub mod LineCodecs
 pub mod BadLines
 pub mod Operating
+pub mod LineSecrets

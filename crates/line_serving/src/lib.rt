@@ -7,6 +7,8 @@ mod limits;
 mod line_codec;
 mod operating;
 mod taking;
+#[cfg(test)]
+mod tests;
 
 pub use laws::{faults_are_bad_lines, lines_are_never_truncated};
 pub use limits::REPLY_ROOM;
