@@ -152,6 +152,20 @@ impl Lines {
         self.whole = false;
     }
 
+    /// Whether a whole line stands.
+    pub fn stands(&self) -> bool
+        ensures { result ≡ self.now.whole }
+    {
+        self.whole
+    }
+
+    /// Whether no byte is held, of a line that stands or of the beginning of one.
+    pub fn is_empty(&self) -> bool
+        ensures { IsTrue result ↔ (self.now.text ≡ []) }
+    {
+        self.used == 0
+    }
+
     /// Says at the end of the stream whether bytes without an LF are held and no line was too long: they then stand as the last line.
     /// No whole line stands before.
     pub fn rest(&mut self) -> bool

@@ -1,1 +1,6 @@
-pub mod Deciding
+pub mod LineFaults
+pub mod LineUnits
+pub mod LineDecoding
+pub mod ServedLines
+pub mod LineRuns
+pub mod LineSecrets

@@ -1,2 +1,7 @@
-pub mod CommandLines
 pub mod LineGrammar
+pub mod LineLaws
+pub mod LineTaking
+pub mod LineCodecs
+pub mod BadLines
+pub mod Operating
+pub mod LineSecrets

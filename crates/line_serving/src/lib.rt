@@ -1,4 +1,17 @@
 //! Commands that an operator types, a line each, and their replies as lines.
 #![tactic(auto)]
 
+mod bad_line;
+mod laws;
+mod limits;
+mod line_codec;
+mod operating;
+mod taking;
+#[cfg(test)]
+mod tests;
+
+pub use laws::{faults_are_bad_lines, lines_are_never_truncated};
+pub use limits::REPLY_ROOM;
+pub use line_codec::LineCodec;
 pub use line_input::{LARGEST_LINE, Lines};
+pub use operating::{Operated, operate};

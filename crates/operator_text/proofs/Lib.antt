@@ -1,8 +1,8 @@
 mod HexPairs
 mod NameTables
-mod ValuesOf
+pub mod ValuesOf
 mod Bodies
-mod OneCommand
+pub mod OneCommand
 mod WordTests
 mod Readings
 mod WordLists

@@ -30,6 +30,18 @@ pub record AreCommandLines (bytes : List ℕ) (commands : List CommandFrame) : T
 abbrev pub BeginsNoGoodLine : List ℕ → Type 0
 BeginsNoGoodLine bytes = (line rest : List ℕ) → HasNoLineFeed line → bytes ≡ ended_line line ++ rest → IsBadLine line
 
+-- The bytes are whole lines that make these commands, and then a remainder that begins with no good line.
+pub record ReadsAs (bytes : List ℕ) (commands : List CommandFrame) (remainder : List ℕ) : Type 0 where
+  pub front : List ℕ
+  pub whole : bytes ≡ front ++ remainder
+  pub made : AreCommandLines front commands
+  pub unfinished : BeginsNoGoodLine remainder
+
+-- bytes make commands in one way
+abbrev pub CommandsInOneWay : Type 0
+CommandsInOneWay = (bytes : List ℕ) (ones others : List CommandFrame) (remainder left : List ℕ) → ReadsAs bytes ones remainder → ReadsAs bytes others left
+    → (ones ≡ others) × (remainder ≡ left)
+
 -- a whole line stands in front, and is bad
 pub record BeginsWithBadLine (bytes : List ℕ) : Type 0 where
   pub line : List ℕ

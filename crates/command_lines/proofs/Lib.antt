@@ -1,0 +1,7 @@
+mod Choices
+pub mod FirstLines
+mod WordChoices
+pub mod Deciding
+pub mod Readings
+pub mod Faults
+pub mod Counts
