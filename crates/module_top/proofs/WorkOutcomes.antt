@@ -20,10 +20,13 @@ use Rattle.command_serving.specs.declared.serving.Ended.{Ended}
 use Rattle.command_serving.specs.declared.serving.Ended.TheVariants as ended
 use Rattle.command_serving.specs.FrameGrammar.{frame_grammar}
 use Rattle.command_serving.specs.Serving.{Serves}
+use Rattle.line_serving.specs.declared.operating.Operated.{Operated}
+use Rattle.line_serving.specs.declared.operating.Operated.TheVariants as operated
+use Rattle.line_serving.specs.Operating.{Operates}
 use Rattle.module_top.specs.declared.words.Work.{Work}
 use Rattle.module_top.specs.declared.words.Work.TheVariants as work
 use Rattle.module_top.specs.Outcomes.{is_refusal, Outside, IsWorkOutcome}
-use Rattle.module_top.specs.Works.{exit_status, written_status, SessionRun}
+use Rattle.module_top.specs.Works.{exit_status, line_status, written_status, SessionRun}
 
 -- there was no memory
 pub no_work : {V S K : Type 0} (w : Work) (calls : Calls V) (s : MachineState V) (noise noise' : Option (List Sample)) (before : Outside S K) → IsWorkOutcome w calls s noise noise' 7 before before
@@ -116,6 +119,46 @@ frames_served calls s ending status noise noise' view before after is served rea
       reads_unchanged = λ other. reads (λ e. other (is ∙ ap exit_status e));
       write_fault = λ six. write (write_fault_of ending (sym is ∙ six));
       writes_unchanged = λ other. writes (λ e. other (is ∙ ap exit_status e));
+    }
+
+-- the statuses of lines that were answered are none either
+no_line_refusal : (answer : Operated) → is_refusal (line_status answer) ≡ false
+no_line_refusal operated.End = refl
+no_line_refusal (operated.BadLine number) = refl
+no_line_refusal operated.ReadFault = refl
+no_line_refusal operated.WriteFault = refl
+no_line_refusal operated.Limit = refl
+
+line_read_fault : (answer : Operated) → line_status answer ≡ 5 → answer ≡ operated.ReadFault
+line_read_fault operated.End h = absurd (omega (arith, h))
+line_read_fault (operated.BadLine number) h = absurd (omega (arith, h))
+line_read_fault operated.ReadFault h = refl
+line_read_fault operated.WriteFault h = absurd (omega (arith, h))
+line_read_fault operated.Limit h = absurd (omega (arith, h))
+
+line_write_fault : (answer : Operated) → line_status answer ≡ 6 → answer ≡ operated.WriteFault
+line_write_fault operated.End h = absurd (omega (arith, h))
+line_write_fault (operated.BadLine number) h = absurd (omega (arith, h))
+line_write_fault operated.ReadFault h = absurd (omega (arith, h))
+line_write_fault operated.WriteFault h = refl
+line_write_fault operated.Limit h = absurd (omega (arith, h))
+
+-- lines were answered
+pub lines_operated : {V S K : Type 0} (calls : Calls V) (s : MachineState V) (answer : Operated) (status : ℕ) (noise noise' : Option (List Sample)) (view : ModuleView V) (before after : Outside S K) → status ≡ line_status answer
+    → Explained noise noise' (Operates calls answer CHUNK s view before.streams after.streams)
+    → (answer ≡ operated.ReadFault → FaultCounted before.read_faults after.read_faults) → (answer ≢ operated.ReadFault → after.read_faults ≡ before.read_faults)
+    → (answer ≡ operated.WriteFault → FaultCounted before.write_faults after.write_faults) → (answer ≢ operated.WriteFault → after.write_faults ≡ before.write_faults)
+    → IsWorkOutcome work.Operate calls s noise noise' status before after
+lines_operated calls s answer status noise noise' view before after is served read reads write writes =
+    let isn't : is_refusal status ≡ false = ap is_refusal is ∙ no_line_refusal answer in record {
+      only_memory = λ refusal. let never : true ≡ false = sym refusal ∙ isn't in cc never;
+      untouched = λ seven. let never : true ≡ false = sym (ap is_refusal seven) ∙ isn't in cc never;
+      worked = λ _. (view, explained_by _ _ served (λ events left operates. (answer, is, operates)));
+      source_stays = λ e. let never : true ≡ false = e in cc never;
+      read_fault = λ five. read (line_read_fault answer (sym is ∙ five));
+      reads_unchanged = λ other. reads (λ e. other (is ∙ ap line_status e));
+      write_fault = λ six. write (line_write_fault answer (sym is ∙ six));
+      writes_unchanged = λ other. writes (λ e. other (is ∙ ap line_status e));
     }
 
 -- the statuses of a text that was written are no refusals

@@ -11,7 +11,8 @@ use Rattle.information_flow.specs.OneCommand.{AllCommitInto, TreeHoldsTaint}
 use Rattle.command_serving.specs.FrameGrammar.{frame_grammar}
 use Rattle.command_serving.specs.Run.{RunsStream, encoded_replies}
 use Rattle.command_serving.proofs.SecretStreams.{IsServedBy, OtherServed, stream_alike}
-use Rattle.line_serving.specs.LineGrammar.{line_grammar}
+use Rattle.line_serving.specs.LineSecrets.{OtherLinesRun, VariantLinesRunAlike}
+use Rattle.line_serving.specs.Operating.{last_text}
 use Rattle.line_serving.proofs.LineSecrets.{lines_alike}
 use Rattle.module_top.specs.declared.words.Work.{Work}
 use Rattle.module_top.specs.declared.words.Work.TheVariants as work
@@ -51,13 +52,13 @@ work_alike {V} work.Serve calls plain s events bytes status out sixteen (ending,
           };
     }
 work_alike work.Operate calls plain s events bytes status out sixteen (answer, is, runs) =
-    let kept = lines_alike calls plain s events bytes answer out sixteen runs in
+    let kept : VariantLinesRunAlike calls s events bytes answer out = lines_alike calls plain s events bytes answer out sixteen runs in
     record {
       replies = kept.replies;
-      end = kept.end;
+      end = last_text answer;
       written = kept.written;
       alike = λ other pairs variant.
-          let served = kept.others other pairs variant in
+          let served : OtherLinesRun calls s events other pairs answer kept.replies = kept.alike other pairs variant in
           record { others = served.others; runs = (answer, is, served.runs); agree = served.agree; one_command = served.one_command };
     }
 work_alike (work.Session seed count) calls plain s events bytes status out sixteen runs =
