@@ -5,5 +5,6 @@ pub mod WorkRuns
 pub mod WorkOutcomes
 pub mod OneOutput
 pub mod RunOutcomes
+pub mod ReportOutcomes
 pub mod WorkSecrets
 pub mod SecretOutputs
