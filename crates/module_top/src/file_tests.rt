@@ -80,7 +80,7 @@ fn status(alloc: Global, words: &[&str], digest: &[u8], fail: &[u64]) -> Result<
 
 #[test]
 fn knows_no_other_words(rt: HostRuntime) -> Result<(), Fail> {
-    let rows: [&[&str]; 12] = [
+    let rows: [&[&str]; 26] = [
         &[],
         &["serve"],
         &["serve", "image"],
@@ -91,7 +91,20 @@ fn knows_no_other_words(rt: HostRuntime) -> Result<(), Fail> {
         &["digest", "image", "digest"],
         &["digest", "image", "digest", "noise"],
         &["Digest", "image"],
-        &["operate", "image", "digest", "noise"],
+        &["operate"],
+        &["operate", "image", "digest"],
+        &["vectors", "image"],
+        &["Vectors"],
+        &["session", "7", "0"],
+        &["session", "7", "0", "image", "digest"],
+        &["session", "7", "0", "image", "digest", "noise", "noise"],
+        &["session", "07", "0", "image", "digest", "noise"],
+        &["session", "-1", "0", "image", "digest", "noise"],
+        &["session", "7", "+1", "image", "digest", "noise"],
+        &["session", "7", "100001", "image", "digest", "noise"],
+        &["session", "18446744073709551616", "0", "image", "digest", "noise"],
+        &["session", "7", "", "image", "digest", "noise"],
+        &["sessions", "7", "0", "image", "digest", "noise"],
         &["--help"],
     ];
     for words in rows {
@@ -102,8 +115,23 @@ fn knows_no_other_words(rt: HostRuntime) -> Result<(), Fail> {
 
 #[test]
 fn looks_at_each_file_in_turn(rt: HostRuntime) -> Result<(), Fail> {
-    let rows: [(&[&str], &[u8], &[u64], u8); 10] = [
+    let operate = ["operate", "image", "digest", "noise"];
+    let session = ["session", "7", "0", "image", "digest", "noise"];
+    let largest = [
+        "session",
+        "18446744073709551615",
+        "100000",
+        "image",
+        "none",
+        "noise",
+    ];
+    let rows: [(&[&str], &[u8], &[u64], u8); 15] = [
         (&SERVE, DIGEST, &[], 3),
+        (&operate, DIGEST, &[1], 8),
+        (&operate, b"", &[3], 11),
+        (&session, DIGEST, &[2], 8),
+        (&session, b"", &[3], 11),
+        (&largest, DIGEST, &[], 8),
         (&SERVE, DIGEST, &[4], 3),
         (&SERVE, DIGEST, &[1], 8),
         (&SERVE, DIGEST, &[2], 8),

@@ -9,6 +9,8 @@ mod file_tests;
 mod frames_work;
 mod laws;
 mod limits;
+#[cfg(test)]
+mod line_run_tests;
 mod lines_work;
 mod loading;
 #[cfg(test)]
