@@ -1,15 +1,13 @@
 -- From a stream of lines that was served to what is answered.
-use Rattle.std.proofs.Common.{◌≡◌, ◌≢◌, ◌+◌, ◌⊎◌, inl, inr, ◌++◌, ℕ, List, [], ◌∷◌, Option, Some, refl, sym, ◌∙◌, ap, subst}
-use Rattle.outside.specs.Contents.{Appends}
+use Rattle.std.proofs.Common.{◌≡◌, ◌+◌, inl, inr, ℕ, List, Option, sym, ◌∙◌, subst}
 use Rattle.outside.specs.declared.traits.Sample.{Sample}
 use Rattle.engine_core.specs.Calls.{Calls}
-use Rattle.module_frames.specs.CommandFrames.{CommandFrame}
 use Rattle.state_model.specs.ModuleView.{ModuleView}
 use Rattle.state_model.specs.MachineState.{MachineState}
 use Rattle.command_serving.specs.declared.serving.Ended.{Ended}
 use Rattle.command_serving.specs.declared.serving.Ended.TheVariants as ended
 use Rattle.command_serving.specs.Grammars.{IsParse}
-use Rattle.command_serving.specs.Run.{RunsStream, remainder_start, ending_of}
+use Rattle.command_serving.specs.Run.{remainder_start, ending_of}
 use Rattle.command_serving.specs.Serving.{Streams, Serves}
 use Rattle.command_serving.specs.Secrets.{KeepsSecrets}
 use Rattle.line_serving.specs.declared.operating.Operated.{Operated}
