@@ -1,5 +1,5 @@
-mod Choices
-mod FirstLines
+pub mod Choices
+pub mod FirstLines
 mod WordChoices
 pub mod Deciding
 pub mod Readings
