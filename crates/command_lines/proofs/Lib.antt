@@ -1,4 +1,4 @@
-mod Choices
+pub mod Choices
 pub mod FirstLines
 mod WordChoices
 pub mod Deciding

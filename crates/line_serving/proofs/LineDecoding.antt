@@ -1,19 +1,18 @@
 -- What a codec of lines answers, by what became of a piece.
-use Rattle.std.proofs.Common.{◌≡◌, ◌≢◌, ◌≤◌, ◌<◌, ◌+◌, ◌++◌, ℕ, Bool, true, false, List, [], ◌∷◌, Option, Some, None, length, take, refl, sym, ◌∙◌, ap, subst, arith, if◌then◌else◌}
+use Rattle.std.proofs.Common.{◌≡◌, ◌+◌, ◌++◌, ℕ, Bool, true, false, List, [], ◌∷◌, Option, None, take, refl, sym, ◌∙◌, ap, subst, arith, if◌then◌else◌}
 use Rattle.std.specs.Option.{option_map}
 use Rattle.bits_core.specs.OutboxContents.{OutboxContents, holding}
-use Rattle.line_input.specs.TextLines.{HasNoLineFeed, ended_line}
-use Rattle.line_input.specs.HeldLines.{HeldLine, IsLineText, no_line, cleared_line}
+use Rattle.line_input.specs.TextLines.{ended_line}
+use Rattle.line_input.specs.HeldLines.{HeldLine, IsLineText, cleared_line}
 use Rattle.module_frames.specs.CommandFrames.{CommandFrame}
 use Rattle.module_frames.specs.Fragments.{Fragment}
-use Rattle.operator_text.specs.Spelling.{Spells, IsComment}
 use Rattle.command_serving.specs.Decoding.{IsReady, Decodes, cleared}
 use Rattle.command_serving.specs.declared.codec.Decoded.TheVariants as decoded
 use Rattle.line_serving.specs.declared.line_codec.LineCodec.TheInside.{Inside}
 use Rattle.line_serving.specs.declared.taking.Taken.TheVariants as taken
 use Rattle.command_lines.specs.CommandLines.{AreCommandLines, BeginsBad, line_feeds}
 use Rattle.line_serving.specs.LineGrammar.{line_grammar}
-use Rattle.line_serving.specs.LineTaking.{IsUnfinished, EndsLine, TakesLine, held_bytes}
+use Rattle.line_serving.specs.LineTaking.{IsUnfinished, TakesLine, held_bytes}
 use Rattle.line_serving.specs.LineCodecs.{fragment_of, IsLineCodec}
 use Rattle.line_serving.proofs.LineFaults.{bad_shows, none_shows}
 use Rattle.line_serving.proofs.LineUnits.{spelled_unit, comment_unit, text_begins_no_line, text_is_not_bad, text_makes_none, good_line_begins, no_feeds, one_feed}

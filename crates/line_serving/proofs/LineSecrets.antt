@@ -1,5 +1,5 @@
 -- Lines that differ in secrets alone run alike.
-use Rattle.std.proofs.Common.{◌≡◌, ◌≢◌, ◌<◌, ◌≤◌, ◌+◌, ◌++◌, ℕ, List, [], length, Option, Some, None, inl, inr, refl, sym, ◌∙◌, ap, subst, arith}
+use Rattle.std.proofs.Common.{◌≡◌, ◌+◌, ◌++◌, ℕ, List, length, Some, None, inl, inr, refl, sym, ◌∙◌, ap, subst, arith}
 use Rattle.std.proofs.lemmas.Bool.{cases_lt}
 use Rattle.outside.specs.declared.traits.Sample.{Sample}
 use Rattle.engine_core.specs.Calls.{Calls, IsStandard}
@@ -8,7 +8,6 @@ use Rattle.state_model.specs.MachineState.{MachineState}
 use Rattle.state_model.specs.Runs.{run_commands}
 use Rattle.information_flow.specs.Variants.{CommandPair, sent, sent_instead}
 use Rattle.stream_calls.specs.declared.limits.TheConstants.{STREAM_MAX}
-use Rattle.command_serving.specs.declared.serving.Ended.{Ended}
 use Rattle.command_serving.specs.declared.serving.Ended.TheVariants as ended
 use Rattle.command_serving.specs.Grammars.{IsParse}
 use Rattle.command_serving.specs.Run.{Runs, remainder_start, ending_of, encoded_replies}

@@ -1,15 +1,15 @@
 -- Single lines as units of the grammar.
-use Rattle.std.proofs.Common.{◌≡◌, ◌≢◌, ◌≤◌, ◌<◌, ◌+◌, ◌⊎◌, inl, inr, ◌++◌, ◌==◌, ℕ, zero, suc, Bool, true, false, List, [], ◌∷◌, Option, Some, None, length, take, drop, refl, sym, ◌∙◌, ap, subst, append-nil, append_assoc, arith, if◌then◌else◌}
-use Rattle.std.specs.List.{count_by, flat_map, AllByRecursion}
+use Rattle.std.proofs.Common.{◌≡◌, ◌<◌, ◌+◌, inl, inr, ◌++◌, ◌==◌, ℕ, zero, suc, Bool, true, false, List, [], ◌∷◌, length, take, drop, refl, sym, ◌∙◌, ap, subst, append-nil, append_assoc, arith, if◌then◌else◌}
+use Rattle.std.specs.List.{flat_map}
 use Rattle.std.proofs.lemmas.List.{length-append, take-append-drop}
 use Rattle.std.proofs.lemmas.List.Sums.{sum_by-append}
 use Rattle.std.proofs.lemmas.Bool.Decides.{Decides-eqb}
-use Rattle.line_input.specs.declared.limits.TheConstants.{LINE_FEED, LARGEST_LINE}
+use Rattle.line_input.specs.declared.limits.TheConstants.{LINE_FEED}
 use Rattle.line_input.specs.TextLines.{HasNoLineFeed, ended_line}
-use Rattle.line_input.specs.HeldLines.{IsLineText, BeginsTooLong}
+use Rattle.line_input.specs.HeldLines.{IsLineText}
 use Rattle.module_frames.specs.CommandFrames.{CommandFrame}
 use Rattle.operator_text.specs.Spelling.{Spells, IsComment}
-use Rattle.command_lines.specs.CommandLines.{AreCommandLines, Make, BeginsNoGoodLine, BeginsWithBadLine, BeginsBad, IsBadLine, line_feeds}
+use Rattle.command_lines.specs.CommandLines.{AreCommandLines, Make, BeginsNoGoodLine, BeginsBad, IsBadLine, line_feeds}
 use Rattle.command_lines.proofs.FirstLines.{feed_between, first_apart}
 
 -- the line of a command is a unit

@@ -1,17 +1,20 @@
 -- From a stream of lines that was served to what is answered.
-use Rattle.std.proofs.Common.{◌≡◌, ◌≢◌, ◌+◌, ◌⊎◌, inl, inr, ◌++◌, ℕ, List, [], ◌∷◌, Option, Some, refl, sym, ◌∙◌, ap, subst}
-use Rattle.outside.specs.Contents.{Appends}
+use Rattle.std.proofs.Common.{◌≡◌, ◌+◌, inl, inr, ℕ, List, Option, sym, ◌∙◌, subst}
 use Rattle.outside.specs.declared.traits.Sample.{Sample}
 use Rattle.engine_core.specs.Calls.{Calls}
-use Rattle.module_frames.specs.CommandFrames.{CommandFrame}
 use Rattle.state_model.specs.ModuleView.{ModuleView}
 use Rattle.state_model.specs.MachineState.{MachineState}
 use Rattle.command_serving.specs.declared.serving.Ended.{Ended}
 use Rattle.command_serving.specs.declared.serving.Ended.TheVariants as ended
 use Rattle.command_serving.specs.Grammars.{IsParse}
+<<<<<<< HEAD
 use Rattle.command_serving.specs.Run.{RunsStream, remainder_start, ending_of}
 use Rattle.stream_calls.specs.Streams.{Streams}
 use Rattle.command_serving.specs.Serving.{Serves}
+=======
+use Rattle.command_serving.specs.Run.{remainder_start, ending_of}
+use Rattle.command_serving.specs.Serving.{Streams, Serves}
+>>>>>>> 88bd80f6e50d1421bbbfd485bfe8193400836163
 use Rattle.command_serving.specs.Secrets.{KeepsSecrets}
 use Rattle.line_serving.specs.declared.operating.Operated.{Operated}
 use Rattle.line_serving.specs.declared.operating.Operated.TheVariants as operated

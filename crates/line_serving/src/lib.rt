@@ -11,7 +11,6 @@ mod taking;
 mod tests;
 
 pub use laws::{faults_are_bad_lines, lines_are_never_truncated};
-pub use limits::REPLY_ROOM;
 pub use line_codec::LineCodec;
-pub use line_input::{LARGEST_LINE, Lines};
+pub use line_input::LARGEST_LINE;
 pub use operating::{Operated, operate};

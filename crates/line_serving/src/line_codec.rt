@@ -75,7 +75,11 @@ fn send_held<K: Sink>(outbox: &mut Outbox, replies: &mut K) -> Result<(), Failed
 
 impl LineCodec {
     /// Writes the line that tells the number of a bad line, and holds what it held.
-    pub(crate) fn tell_bad_line<K: Sink>(&mut self, number: u64, replies: &mut K) -> Result<(), Failed>
+    pub(crate) fn tell_bad_line<K: Sink>(
+        &mut self,
+        number: u64,
+        replies: &mut K,
+    ) -> Result<(), Failed>
         ensures whole { OnOk result (Appends (K.gained replies.old) (bad_line_text number) (K.gained replies.new)) }
         ensures part { OnErr result (AppendsPart (K.gained replies.old) (bad_line_text number) (K.gained replies.new)) }
         ensures fault_counted { OnErr result (FaultCounted (K.faults replies.old) (K.faults replies.new)) }
@@ -99,15 +103,15 @@ impl Codec for LineCodec {
     ghost lawful = { line_grammar_is_lawful };
 
     fn decode(&mut self, piece: &[u8]) -> Decoded {
+        let number = self.ended + 1;
         match take_line(&mut self.lines, &mut self.command, piece) {
             Taken::More => Decoded::More,
             Taken::Command(count) => Decoded::Command(count),
             Taken::Comment(count) => {
-                self.ended += 1;
+                self.ended = number;
                 Decoded::Skipped(count)
             }
             Taken::Bad => {
-                let number = self.ended + 1;
                 self.fault = Some(number);
                 Decoded::Fault(number)
             }

@@ -1,4 +1,4 @@
-use Rattle.std.proofs.Common.{◌≡◌, List, ℕ, ap, subst}
+use Rattle.std.proofs.Common.{ap, subst}
 use Rattle.line_input.specs.HeldLines.{HeldLine}
 use Rattle.command_lines.specs.CommandLines.{IsBadLine}
 use Rattle.line_serving.proofs.LineUnits.{bad_line_shows}

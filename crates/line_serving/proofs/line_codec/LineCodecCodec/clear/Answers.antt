@@ -1,8 +1,6 @@
-use Rattle.std.proofs.Common.{◌≡◌, ◌∙◌, ◌++◌, ◌+◌, true, false, List, ℕ, [], ◌∷◌, sym, refl, ap, subst, arith}
-use Rattle.module_frames.specs.Fragments.{Fragment}
-use Rattle.module_frames.specs.CommandFrames.{CommandFrame}
+use Rattle.std.proofs.Common.{◌≡◌, ◌∙◌, ◌+◌, sym, ap, subst}
 use Rattle.line_serving.specs.LineGrammar.{line_grammar}
-use Rattle.line_serving.specs.LineCodecs.{fragment_of, IsLineCodec}
+use Rattle.line_serving.specs.LineCodecs.{fragment_of}
 use Rattle.line_input.specs.HeldLines.{cleared_line}
 use Rattle.line_serving.specs.declared.line_codec.LineCodec.TheInside.{Inside}
 use Rattle.line_serving.specs.LineTaking.{held_bytes}
@@ -15,7 +13,7 @@ pub returns : goal.returns
 returns c =
     let lines = c.clear.new.self in
     let Forgets : Inside → Type 0 = λ inside. lines ≡ cleared_line inside.lines
-        → record { start = inside.ended; bytes = held_bytes lines; fault = inside.fault } ≡ cleared line_grammar c.args.self.now in
+    → record { start = inside.ended; bytes = held_bytes lines; fault = inside.fault } ≡ cleared line_grammar c.args.self.now in
     let before : cleared line_grammar (fragment_of c.self.inside) ≡ cleared line_grammar c.args.self.now = ap (λ held. cleared line_grammar held) c.self.view_is in
     elim c.if-stands.branch [
       | then-stands w ↦ subst Forgets (sym w.self-inside-is)

@@ -1,8 +1,6 @@
-use Rattle.std.proofs.Common.{◌≡◌, ◌∙◌, ◌++◌, ◌+◌, true, false, List, ℕ, [], ◌∷◌, sym, refl, ap, subst, arith}
+use Rattle.std.proofs.Common.{[], ◌∷◌, sym, subst}
 use Rattle.module_frames.specs.Fragments.{Fragment}
 use Rattle.module_frames.specs.CommandFrames.{CommandFrame}
-use Rattle.line_serving.specs.LineGrammar.{line_grammar}
-use Rattle.line_serving.specs.LineCodecs.{fragment_of, IsLineCodec}
 use Rattle.command_lines.specs.CommandLines.{AreCommandLines}
 use Rattle.line_serving.proofs.LineDecoding.{stands_command}
 use Rattle.line_serving.proofs.line_codec.LineCodecCodec.command.Goals as goal

@@ -1,10 +1,8 @@
-use Rattle.std.proofs.Common.{◌≡◌, ◌∙◌, ◌++◌, ◌+◌, true, false, List, ℕ, [], ◌∷◌, sym, refl, ap, subst, arith}
+use Rattle.std.proofs.Common.{◌+◌, sym, subst}
 use Rattle.module_frames.specs.Fragments.{Fragment}
-use Rattle.module_frames.specs.CommandFrames.{CommandFrame}
 use Rattle.line_serving.specs.LineGrammar.{line_grammar}
-use Rattle.line_serving.specs.LineCodecs.{fragment_of, IsLineCodec}
+use Rattle.line_serving.specs.LineCodecs.{fragment_of}
 use Rattle.command_serving.specs.Decoding.{IsReady, Decodes}
-use Rattle.command_serving.specs.declared.codec.Decoded.{Decoded}
 use Rattle.command_serving.specs.declared.codec.Decoded.TheVariants as decoded
 use Rattle.line_serving.proofs.LineDecoding.{ready_is_unfinished, decoded_more, decoded_command, decoded_comment, decoded_fault, kept_more}
 use Rattle.line_serving.proofs.line_codec.LineCodecCodec.decode.Goals as goal

@@ -1,8 +1,6 @@
-use Rattle.std.proofs.Common.{◌≡◌, ◌∙◌, ◌++◌, ◌+◌, true, false, List, ℕ, [], ◌∷◌, sym, refl, ap, subst, arith}
+use Rattle.std.proofs.Common.{◌≡◌, ◌∙◌, sym, ap, subst}
 use Rattle.module_frames.specs.Fragments.{Fragment}
-use Rattle.module_frames.specs.CommandFrames.{CommandFrame}
 use Rattle.line_serving.specs.LineGrammar.{line_grammar}
-use Rattle.line_serving.specs.LineCodecs.{fragment_of, IsLineCodec}
 use Rattle.command_serving.specs.Decoding.{IsReady}
 use Rattle.line_serving.proofs.LineDecoding.{text_is_all}
 use Rattle.line_serving.proofs.line_codec.LineCodecCodec.is_at_boundary.Goals as goal

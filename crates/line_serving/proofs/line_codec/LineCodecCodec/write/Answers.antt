@@ -1,8 +1,5 @@
-use Rattle.std.proofs.Common.{◌≡◌, ◌∙◌, ◌++◌, ◌+◌, true, false, List, ℕ, [], ◌∷◌, sym, refl, ap, subst, arith}
+use Rattle.std.proofs.Common.{◌∙◌, [], ap}
 use Rattle.bits_core.specs.OutboxContents.{OutboxContents, holding}
-use Rattle.module_frames.specs.CommandFrames.{CommandFrame}
-use Rattle.line_serving.specs.LineGrammar.{line_grammar}
-use Rattle.line_serving.specs.LineCodecs.{fragment_of, IsLineCodec}
 use Rattle.line_serving.proofs.LineDecoding.{kept_reply}
 use Rattle.line_serving.proofs.line_codec.LineCodecCodec.write.Goals as goal
 
