@@ -1,1 +1,5 @@
 pub mod ResultCases
+pub mod LineReads
+pub mod ReportLines
+pub mod LineSplits
+pub mod ChunkSteps
