@@ -3,3 +3,5 @@ pub mod LineReads
 pub mod ReportLines
 pub mod LineSplits
 pub mod ChunkSteps
+pub mod EndSteps
+pub mod StreamEnds

@@ -1,9 +1,10 @@
 -- What lines find, in two parts.
-use Rattle.std.proofs.Common.{◌≡◌, ◌⊎◌, inl, inr, ℕ, Bool, true, false, List, [], ◌∷◌, ◌++◌, refl, sym, ◌∙◌, ap, subst}
+use Rattle.std.proofs.Common.{if◌then◌else◌, ◌≡◌, ◌⊎◌, inl, inr, ℕ, Bool, true, false, List, [], ◌∷◌, ◌++◌, refl, sym, ◌∙◌, ap, subst}
 use Rattle.std.proofs.lemmas.Bool.{cases_Bool}
 use Rattle.std.proofs.lemmas.List.Folds.{list_any-append}
 use Rattle.std.specs.Prelude.{◌||◌}
 use Rattle.engine_core.specs.Calls.{Calls}
+use Rattle.vector_suite.specs.Lines.{Found}
 use Rattle.vector_suite.specs.declared.lines.VectorRead.{VectorRead}
 use Rattle.vector_reports.specs.Findings.{LinesFound, is_bad, read_line, with_read, lines_found}
 use Rattle.vector_reports.specs.ReportText.{has_bad}
@@ -32,8 +33,14 @@ pub found_bad : {V : Type 0} (calls : Calls V) (v : V) (line : List ℕ) (lines 
 unfolding lines_found
 found_bad calls v line lines bad = rw bad refl
 
-or_left : (b : Bool) → (true || b) ≡ false → ⊥
-or_left b h = cc
+-- what is found behind a line: nothing if it is bad
+abbrev pub found_next : {V : Type 0} → Calls V → Found V → List (List ℕ) → LinesFound V
+found_next calls found lines = if is_bad found.read then found_as [] found.engine else lines_found calls found.engine lines
+
+pub found_first : {V : Type 0} (calls : Calls V) (v : V) (line : List ℕ) (lines : List (List ℕ))
+    → lines_found calls v (line ∷ lines) ≡ with_read (read_line calls v line).read (found_next calls (read_line calls v line) lines)
+unfolding lines_found
+found_first calls v line lines = refl
 
 -- behind lines of which none is bad
 found_both : {V : Type 0} (calls : Calls V) (v : V) (xs ys : List (List ℕ)) → has_bad (lines_found calls v xs).reads ≡ false

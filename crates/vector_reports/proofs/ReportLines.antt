@@ -31,7 +31,7 @@ report_both before (read ∷ a) b =
     ∙ sym (append_assoc (report_line (before + 1) read) (report_lines (before + 1) a) (report_lines (before + length (read ∷ a)) b))
     ∙ ap (λ xs. xs ++ report_lines (before + length (read ∷ a)) b) (sym (report_more before read a))
 
-abbrev tally_of : (lines checked passed : ℕ) → Tally
+abbrev pub tally_of : (lines checked passed : ℕ) → Tally
 tally_of lines checked passed = record { lines = lines; checked = checked; passed = passed }
 
 same_tally : (lines lines' checked checked' passed passed' : ℕ) → lines ≡ lines' → checked ≡ checked' → passed ≡ passed'
@@ -43,6 +43,13 @@ count_both p a b = sum_by-append (λ read. cond (p read) 1 0) a b
 
 pub tally_none : (tally : Tally) → tally_after tally [] ≡ tally
 tally_none tally = same_tally (tally.lines + 0) tally.lines (tally.checked + 0) tally.checked (tally.passed + 0) tally.passed (omega arith) (omega arith) (omega arith)
+
+-- at a report's beginning
+abbrev pub no_lines : Tally
+no_lines = record { lines = 0; checked = 0; passed = 0 }
+
+pub tally_from_none : (reads : List VectorRead) → tally_after no_lines reads ≡ tally_of (length reads) (checked_in reads) (passed_in reads)
+tally_from_none reads = same_tally _ _ _ _ _ _ (omega arith) (omega arith) (omega arith)
 
 pub tally_both : (tally : Tally) (a b : List VectorRead) → tally_after (tally_after tally a) b ≡ tally_after tally (a ++ b)
 tally_both tally a b = same_tally _ _ _ _ _ _

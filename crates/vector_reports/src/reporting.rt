@@ -62,6 +62,17 @@ fn verdict(tally: &Tally) -> Reported
     }
 }
 
+// Writes the report's last line, and answers what its numbers say.
+fn conclude<K: Sink>(report: &mut K, tally: &Tally) -> Reported
+    ensures answer { result ≢ Reported.WriteFault → result ≡ (if tally.now.passed == tally.now.checked then Reported.AllPassed else Reported.SomeFailed) }
+    ensures whole { result ≢ Reported.WriteFault → Appends (K.gained report.old) (last_line tally.now.passed tally.now.checked) (K.gained report.new) }
+    ensures part { result ≡ Reported.WriteFault → AppendsPart (K.gained report.old) (last_line tally.now.passed tally.now.checked) (K.gained report.new) }
+    ensures fault_counted { result ≡ Reported.WriteFault → FaultCounted (K.faults report.old) (K.faults report.new) }
+    ensures faults_unchanged { result ≢ Reported.WriteFault → K.faults report.new ≡ K.faults report.old }
+{
+    close_report(report, tally, verdict(tally))
+}
+
 // Reports what is held where the source has ended, and writes the last line.
 fn report_end<E: Engine, K: Sink>(
     engine: &mut E,
@@ -81,14 +92,14 @@ fn report_end<E: Engine, K: Sink>(
     ensures faults_unchanged { result ≢ Reported.WriteFault → K.faults report.new ≡ K.faults report.old }
     ensures work { length work.new ≡ length work.old }
 {
-    if lines.rest() {
-        match report_line(engine, report, lines.line(), tally, work) {
-            LinesEnd::Good => {}
-            LinesEnd::Bad => return Reported::BadLine(tally.lines),
-            LinesEnd::WriteFault => return Reported::WriteFault,
-        }
+    if !lines.rest() {
+        return conclude(report, tally);
     }
-    close_report(report, tally, verdict(tally))
+    match report_line(engine, report, lines.line(), tally, work) {
+        LinesEnd::Good => conclude(report, tally),
+        LinesEnd::Bad => Reported::BadLine(tally.lines),
+        LinesEnd::WriteFault => Reported::WriteFault,
+    }
 }
 
 // Reports the lines of a source, and leaves what it worked with as it is then.
