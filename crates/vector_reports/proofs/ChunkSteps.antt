@@ -13,7 +13,7 @@ use Rattle.vector_reports.specs.ReportText.{report_line, report_lines, has_bad}
 use Rattle.vector_reports.specs.VectorReports.{remainder_lines}
 use Rattle.vector_reports.specs.Progress.{ReportState, ChunkReported, CheckedUpTo, tally_after}
 use Rattle.vector_reports.proofs.LineReads.{with_reads, found_as, found_none, found_more, found_behind, has_bad_behind}
-use Rattle.vector_reports.proofs.LineSplits.{split_both, split_line, split_none, split_of, FirstLine}
+use Rattle.vector_reports.proofs.LineSplits.{split_both, split_line, split_none, split_of, FirstTooLong}
 use Rattle.vector_reports.proofs.ReportLines.{report_none, report_one, report_both, tally_none, tally_both}
 
 -- bytes were held
@@ -131,7 +131,7 @@ up_to_line {V} calls before after held front back line whole no_feed engine tall
     first_line calls before after held (front ++ back) line behind.remainder (line ∷ behind.lines) (behind.lines ++ remainder_lines false behind.remainder) found.read split refl same tally
 
 -- a line is too long
-pub up_to_long : {V : Type 0} (calls : Calls V) (before after : ReportState V) (held chunk : List ℕ) → FirstLine (held ++ chunk) → after.engine ≡ before.engine → after.tally ≡ tally_after before.tally (Bad ∷ [])
+pub up_to_long : {V : Type 0} (calls : Calls V) (before after : ReportState V) (held chunk : List ℕ) → FirstTooLong false (held ++ chunk) → after.engine ≡ before.engine → after.tally ≡ tally_after before.tally (Bad ∷ [])
     → CheckedUpTo calls before held chunk Bad after (report_line (before.tally.lines + 1) Bad)
 up_to_long {V} calls before after held chunk first engine tally =
     let found : read_line calls before.engine first.line ≡ record { read = Bad; engine = after.engine } =

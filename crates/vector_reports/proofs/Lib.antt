@@ -5,3 +5,5 @@ pub mod LineSplits
 pub mod ChunkSteps
 pub mod EndSteps
 pub mod StreamEnds
+pub mod OneReport
+pub mod VectorRuns

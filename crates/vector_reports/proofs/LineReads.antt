@@ -6,7 +6,8 @@ use Rattle.std.specs.Prelude.{◌||◌}
 use Rattle.engine_core.specs.Calls.{Calls}
 use Rattle.vector_suite.specs.Lines.{Found}
 use Rattle.vector_suite.specs.declared.lines.VectorRead.{VectorRead}
-use Rattle.vector_reports.specs.Findings.{LinesFound, is_bad, read_line, with_read, lines_found}
+use Rattle.vector_suite.specs.declared.lines.VectorRead.TheVariants.{Bad}
+use Rattle.vector_reports.specs.Findings.{LinesFound, is_bad, is_too_long, read_line, with_read, lines_found}
 use Rattle.vector_reports.specs.ReportText.{has_bad}
 
 -- what was read in front of more
@@ -42,8 +43,13 @@ pub found_first : {V : Type 0} (calls : Calls V) (v : V) (line : List ℕ) (line
 unfolding lines_found
 found_first calls v line lines = refl
 
+-- a line that is too long
+pub found_long : {V : Type 0} (calls : Calls V) (v : V) (line : List ℕ) (lines : List (List ℕ)) → is_too_long line ≡ true → lines_found calls v (line ∷ lines) ≡ found_as (Bad ∷ []) v
+unfolding lines_found
+found_long calls v line lines long = rw long refl
+
 -- behind lines of which none is bad
-found_both : {V : Type 0} (calls : Calls V) (v : V) (xs ys : List (List ℕ)) → has_bad (lines_found calls v xs).reads ≡ false
+pub found_both : {V : Type 0} (calls : Calls V) (v : V) (xs ys : List (List ℕ)) → has_bad (lines_found calls v xs).reads ≡ false
     → lines_found calls v (xs ++ ys) ≡ with_reads (lines_found calls v xs).reads (lines_found calls (lines_found calls v xs).engine ys)
 found_both calls v [] ys h = rw (found_none calls v) refl
 found_both {V} calls v (line ∷ xs) ys h =

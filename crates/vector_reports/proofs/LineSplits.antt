@@ -77,21 +77,26 @@ split_of (byte ∷ bytes) =
       | inr other ↦ one_byte byte bytes other behind.lines behind.remainder behind.splits
     ]
 
--- the first line of bytes, where the source may go on
-pub record FirstLine (bytes : List ℕ) : Type 0 where
+-- the first line of bytes is too long
+pub record FirstTooLong (ended : Bool) (bytes : List ℕ) : Type 0 where
   pub whole_lines : List (List ℕ)
   pub remainder : List ℕ
   pub split : SplitsInto bytes whole_lines remainder
   pub line : List ℕ
   pub more : List (List ℕ)
-  pub parts : whole_lines ++ remainder_lines false remainder ≡ line ∷ more
+  pub parts : whole_lines ++ remainder_lines ended remainder ≡ line ∷ more
   pub too_long : is_too_long line ≡ true
 
 long_one : (line : List ℕ) → LARGEST_LINE < length line → is_too_long line ≡ true
 long_one line many = search rules
 
-too_long_by : (front more remainder : List ℕ) (lines : List (List ℕ)) → HasNoLineFeed front → LARGEST_LINE < length front → SplitsInto more lines remainder → FirstLine (front ++ more)
-too_long_by front more remainder [] no_feed many behind =
+long_remainder : (ended : Bool) (line : List ℕ) → is_too_long line ≡ true → remainder_lines ended line ≡ line ∷ []
+long_remainder true [] long = cc
+long_remainder true (byte ∷ line) long = refl
+long_remainder false line long = rw long refl
+
+too_long_by : (ended : Bool) (front more remainder : List ℕ) (lines : List (List ℕ)) → HasNoLineFeed front → LARGEST_LINE < length front → SplitsInto more lines remainder → FirstTooLong ended (front ++ more)
+too_long_by ended front more remainder [] no_feed many behind =
     let long = long_one (front ++ remainder) (omega (arith, many, length-append front remainder)) in
     record {
       whole_lines = [];
@@ -99,24 +104,24 @@ too_long_by front more remainder [] no_feed many behind =
       split = split_begun front more remainder no_feed behind;
       line = front ++ remainder;
       more = [];
-      parts = rw long refl;
+      parts = long_remainder ended (front ++ remainder) long;
       too_long = long;
     }
-too_long_by front more remainder (line ∷ lines) no_feed many behind = record {
+too_long_by ended front more remainder (line ∷ lines) no_feed many behind = record {
   whole_lines = (front ++ line) ∷ lines;
   remainder = remainder;
   split = split_front front line more remainder lines no_feed behind;
   line = front ++ line;
-  more = lines ++ remainder_lines false remainder;
+  more = lines ++ remainder_lines ended remainder;
   parts = refl;
   too_long = long_one (front ++ line) (omega (arith, many, length-append front line));
 }
 
 -- bytes that begin with too many before any LF
-pub too_long_first : (bytes : List ℕ) → BeginsTooLong bytes → FirstLine bytes
-too_long_first bytes begins =
+pub too_long_first : (ended : Bool) (bytes : List ℕ) → BeginsTooLong bytes → FirstTooLong ended bytes
+too_long_first ended bytes begins =
     let behind = split_of begins.more in
-    subst FirstLine (sym begins.parts) (too_long_by begins.front begins.more behind.remainder behind.lines begins.no_feed begins.many behind.splits)
+    subst (λ xs. FirstTooLong ended xs) (sym begins.parts) (too_long_by ended begins.front begins.more behind.remainder behind.lines begins.no_feed begins.many behind.splits)
 
 -- the beginning of a line is no line yet
 pub no_remainder_line : (held : List ℕ) → IsLineText held → remainder_lines false held ≡ []

@@ -1,4 +1,4 @@
-use Rattle.std.proofs.Common.{◌≡◌, ◌<◌, ◌+◌, ◌++◌, [], ◌∷◌, take, drop, length, refl, sym, ◌∙◌, ap, subst, arith, length-drop, take-append-drop}
+use Rattle.std.proofs.Common.{false, ◌≡◌, ◌<◌, ◌+◌, ◌++◌, [], ◌∷◌, take, drop, length, refl, sym, ◌∙◌, ap, subst, arith, length-drop, take-append-drop}
 use Rattle.std.proofs.Math.Seq.{take-add}
 use Rattle.std.proofs.lemmas.List.{take_rest, length-take-le}
 use Rattle.outside.specs.Contents.{Appends}
@@ -52,7 +52,7 @@ returns-in-TooLong-clause-bad g c is =
     let start : ReportState g.row.E.Denot = record { engine = c.args.engine.now; tally = c.args.tally.now; gained = g.K.Sink.gained c.args.report.now } in
     let now : ReportState g.row.E.Denot = record { engine = c.loop-done.engine; tally = c.loop-done.tally; gained = g.K.Sink.gained c.loop-done.report } in
     let next : ReportState g.row.E.Denot = record { engine = c.loop-done.engine; tally = c.report_too_long.new.tally; gained = g.K.Sink.gained c.report_too_long.new.report } in
-    let second : CheckedUpTo calls now mid rest Bad next (report_line (c.loop-done.tally.lines + 1) Bad) = up_to_long calls now next mid rest (too_long_first (mid ++ rest) fed.0) refl c.report_too_long.ensures.counted in (
+    let second : CheckedUpTo calls now mid rest Bad next (report_line (c.loop-done.tally.lines + 1) Bad) = up_to_long calls now next mid rest (too_long_first false (mid ++ rest) fed.0) refl c.report_too_long.ensures.counted in (
       report_lines c.args.tally.now.lines i.reported.reads ++ report_line (c.loop-done.tally.lines + 1) Bad,
       rest_up_to calls start now next c.args.lines.now.text mid c.args.chunk.now (report_line (c.loop-done.tally.lines + 1) Bad) c.loop-done.done Bad i.reported second,
       appends_both _ _ _ _ _ i.reported.written (c.report_too_long.ensures.whole (λ e. cc)),
@@ -68,7 +68,7 @@ returns-in-TooLong-clause-write_fault g c is =
     let start : ReportState g.row.E.Denot = record { engine = c.args.engine.now; tally = c.args.tally.now; gained = g.K.Sink.gained c.args.report.now } in
     let now : ReportState g.row.E.Denot = record { engine = c.loop-done.engine; tally = c.loop-done.tally; gained = g.K.Sink.gained c.loop-done.report } in
     let next : ReportState g.row.E.Denot = record { engine = c.loop-done.engine; tally = c.report_too_long.new.tally; gained = g.K.Sink.gained c.report_too_long.new.report } in
-    let second : CheckedUpTo calls now mid rest Bad next (report_line (c.loop-done.tally.lines + 1) Bad) = up_to_long calls now next mid rest (too_long_first (mid ++ rest) fed.0) refl c.report_too_long.ensures.counted in (
+    let second : CheckedUpTo calls now mid rest Bad next (report_line (c.loop-done.tally.lines + 1) Bad) = up_to_long calls now next mid rest (too_long_first false (mid ++ rest) fed.0) refl c.report_too_long.ensures.counted in (
       Bad,
       report_lines c.args.tally.now.lines i.reported.reads ++ report_line (c.loop-done.tally.lines + 1) Bad,
       rest_up_to calls start now next c.args.lines.now.text mid c.args.chunk.now (report_line (c.loop-done.tally.lines + 1) Bad) c.loop-done.done Bad i.reported second,

@@ -145,11 +145,11 @@ returns-clause-reported g c =
     let left = g.S.Source.left c.args.vectors.now in
     let left' = g.S.Source.left c.loop-taken.vectors in
     let gained = g.K.Sink.gained c.args.report.now in
-    let gained' = g.K.Sink.gained c.close_report.new.report in
+    let gained' = g.K.Sink.gained c.close_report-2.new.report in
     let Ends : Reported → Type 0 = λ answer. Reports calls answer (length c.args.chunk.now) v c.loop-taken.engine (record { left = left; gained = gained }) (record { left = left'; gained = gained' }) in
-    elim (write_failed_or_not c.close_report.result) [
-      | inl failed ↦ subst Ends (sym failed) (open_cut calls v now so_far.0 c.loop-taken.lines.text left left' gained gained' i.begun.text so_far.3 so_far.1 (c.close_report.ensures.part failed))
-      | inr whole ↦ subst Ends (sym (c.close_report.ensures.answer whole))
-          (open_written calls _ (length c.args.chunk.now) v now so_far.0 c.loop-taken.lines.text left left' gained gained' i.begun.text so_far.3 so_far.1 (c.close_report.ensures.whole whole)
+    elim (write_failed_or_not c.close_report-2.result) [
+      | inl failed ↦ subst Ends (sym failed) (open_cut calls v now so_far.0 c.loop-taken.lines.text left left' gained gained' i.begun.text so_far.3 so_far.1 (c.close_report-2.ensures.part failed))
+      | inr whole ↦ subst Ends (sym (c.close_report-2.ensures.answer whole))
+          (open_written calls _ (length c.args.chunk.now) v now so_far.0 c.loop-taken.lines.text left left' gained gained' i.begun.text so_far.3 so_far.1 (c.close_report-2.ensures.whole whole)
           (so_far.3.none_bad, refl, omega (arith, so_far.2, i.within, c.loop-taken-test.false)))
     ]
