@@ -7,14 +7,9 @@ use Rattle.state_model.specs.MachineState.{MachineState}
 use Rattle.command_serving.specs.declared.serving.Ended.{Ended}
 use Rattle.command_serving.specs.declared.serving.Ended.TheVariants as ended
 use Rattle.command_serving.specs.Grammars.{IsParse}
-<<<<<<< HEAD
-use Rattle.command_serving.specs.Run.{RunsStream, remainder_start, ending_of}
+use Rattle.command_serving.specs.Run.{remainder_start, ending_of}
 use Rattle.stream_calls.specs.Streams.{Streams}
 use Rattle.command_serving.specs.Serving.{Serves}
-=======
-use Rattle.command_serving.specs.Run.{remainder_start, ending_of}
-use Rattle.command_serving.specs.Serving.{Streams, Serves}
->>>>>>> 88bd80f6e50d1421bbbfd485bfe8193400836163
 use Rattle.command_serving.specs.Secrets.{KeepsSecrets}
 use Rattle.line_serving.specs.declared.operating.Operated.{Operated}
 use Rattle.line_serving.specs.declared.operating.Operated.TheVariants as operated

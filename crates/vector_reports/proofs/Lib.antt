@@ -1,4 +1,3 @@
-pub mod ResultCases
 pub mod LineReads
 pub mod ReportLines
 pub mod LineSplits

@@ -18,7 +18,8 @@ use Rattle.vector_reports.specs.Findings.{LinesFound, read_line, with_read, line
 use Rattle.vector_reports.specs.ReportText.{report_lines, last_line, ending_line, report_of, has_bad, passed_in, checked_in}
 use Rattle.vector_reports.specs.VectorReports.{IsVectorReport, remainder_lines, verdict_of}
 use Rattle.vector_reports.specs.Progress.{ReportState, ChunkReported, CheckedUpTo, EndChecked, tally_after, closing_line, closing_answer}
-use Rattle.vector_reports.specs.Reporting.{Streams, IsAllOf, IsReadToEnd, AskedNoFurther, EndsBy, ReportOfTaken, ReportCutOff, ReportWritten, Reports}
+use Rattle.stream_calls.specs.Streams.{Streams, IsAllOf}
+use Rattle.vector_reports.specs.Reporting.{IsReadToEnd, AskedNoFurther, EndsBy, ReportOfTaken, ReportCutOff, ReportWritten, Reports}
 use Rattle.vector_reports.proofs.EndSteps.{found_one}
 use Rattle.vector_reports.proofs.LineReads.{with_reads, found_next, found_first, found_behind, has_bad_behind}
 use Rattle.vector_reports.proofs.LineSplits.{no_remainder_line}

@@ -15,7 +15,8 @@ use Rattle.vector_reports.specs.declared.reporting.Reported.TheVariants as repor
 use Rattle.vector_reports.specs.Findings.{LinesFound, is_too_long, lines_found}
 use Rattle.vector_reports.specs.ReportText.{report_of, has_bad, passed_in, checked_in}
 use Rattle.vector_reports.specs.VectorReports.{IsVectorReport, remainder_lines, bad_line_or, verdict_of}
-use Rattle.vector_reports.specs.Reporting.{Streams, Reports, ReportWritten, IsReadToEnd}
+use Rattle.stream_calls.specs.Streams.{Streams}
+use Rattle.vector_reports.specs.Reporting.{Reports, ReportWritten, IsReadToEnd}
 use Rattle.vector_reports.specs.Runs.{RunsVectors}
 use Rattle.vector_reports.proofs.LineReads.{with_reads, found_as, found_long, found_both, found_stays}
 use Rattle.vector_reports.proofs.LineSplits.{split_both, split_of, FirstTooLong, too_long_first}

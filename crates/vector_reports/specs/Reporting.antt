@@ -1,9 +1,10 @@
 -- What reporting leaves, by its answer.
-use Rattle.std.specs.Prelude.{◌≡◌, ◌≤◌, ◌<◌, ◌++◌, ◌⊎◌, ℕ, Bool, true, false, List, [], length, take, Option, IfSome}
+use Rattle.std.specs.Prelude.{◌≡◌, ◌≤◌, ◌<◌, ◌++◌, ◌⊎◌, ℕ, Bool, true, false, List, [], length, take, Option}
 use Rattle.engine_core.specs.Calls.{Calls}
 use Rattle.outside.specs.Contents.{Consumes, Appends}
 use Rattle.outside.specs.Faults.{FaultCounted}
 use Rattle.stream_calls.specs.PartialWrites.{AppendsPart}
+use Rattle.stream_calls.specs.Streams.{Streams, IsAllOf}
 use Rattle.stream_calls.specs.declared.limits.TheConstants.{STREAM_MAX}
 use Rattle.vector_suite.specs.declared.lines.VectorRead.{VectorRead}
 use Rattle.vector_reports.specs.Findings.{lines_found}
@@ -11,15 +12,6 @@ use Rattle.vector_reports.specs.ReportText.{has_bad, report_of}
 use Rattle.vector_reports.specs.VectorReports.{IsVectorReport, remainder_lines, verdict_of}
 use Rattle.vector_reports.specs.declared.reporting.Reported.{Reported}
 use Rattle.vector_reports.specs.declared.reporting.Reported.TheVariants as reported
-
--- the source and the sink, as far as they tell
-pub record Streams : Type 0 where
-  pub left : Option (List ℕ)
-  pub gained : Option (List ℕ)
-
--- where a content is told, these bytes are all of it
-abbrev pub IsAllOf : List ℕ → Option (List ℕ) → Type 0
-IsAllOf taken content = IfSome content (λ all. all ≡ taken)
 
 -- the source was read to its end
 abbrev pub IsReadToEnd : List ℕ → Option (List ℕ) → Type 0

@@ -5,7 +5,8 @@ use Rattle.outside.proofs.ConsecutiveCalls.{consumes_none, consumes_both, append
 use Rattle.stream_calls.specs.declared.limits.TheConstants.{STREAM_MAX}
 use Rattle.stream_calls.proofs.PartialWrites.{part_behind}
 use Rattle.vector_reports.specs.declared.reporting.Reported.{Reported}
-use Rattle.vector_reports.specs.Reporting.{Streams, Reports}
+use Rattle.stream_calls.specs.Streams.{Streams}
+use Rattle.vector_reports.specs.Reporting.{Reports}
 use Rattle.vector_reports.specs.Progress.{ReportState, IsLineBegun}
 use Rattle.vector_reports.specs.ReportText.{report_lines}
 use Rattle.vector_reports.proofs.ChunkSteps.{chunk_none, chunk_both, up_to_both}

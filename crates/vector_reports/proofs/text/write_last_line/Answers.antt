@@ -4,7 +4,7 @@ use Rattle.std.specs.Fmt.{decimal}
 use Rattle.outside.specs.Contents.{Appends}
 use Rattle.stream_calls.specs.PartialWrites.{AppendsPart}
 use Rattle.stream_calls.proofs.PartialWrites.{part_behind}
-use Rattle.vector_reports.proofs.ResultCases.{on_err_then}
+use Rattle.stream_calls.proofs.ResultCases.{on_err_then}
 use Rattle.vector_reports.specs.ReportText.{last_line}
 use Rattle.vector_reports.proofs.text.write_last_line.Goals as goal
 

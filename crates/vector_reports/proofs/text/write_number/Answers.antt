@@ -3,7 +3,7 @@ use Rattle.std.specs.Fmt.{decimal}
 use Rattle.outside.specs.Contents.{Appends}
 use Rattle.stream_calls.specs.PartialWrites.{AppendsPart}
 use Rattle.stream_calls.proofs.PartialWrites.{part_behind}
-use Rattle.vector_reports.proofs.ResultCases.{on_err_then}
+use Rattle.stream_calls.proofs.ResultCases.{on_err_then}
 use Rattle.vector_reports.proofs.text.write_number.Goals as goal
 
 -- the number was written, and a part of the word

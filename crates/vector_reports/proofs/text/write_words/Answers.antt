@@ -2,7 +2,7 @@ use Rattle.std.proofs.Common.{◌++◌}
 use Rattle.std.specs.Fmt.{decimal}
 use Rattle.stream_calls.specs.PartialWrites.{AppendsPart}
 use Rattle.stream_calls.proofs.PartialWrites.{part_behind}
-use Rattle.vector_reports.proofs.ResultCases.{on_err_then}
+use Rattle.stream_calls.proofs.ResultCases.{on_err_then}
 use Rattle.vector_reports.proofs.text.write_words.Goals as goal
 
 -- the first word was written, and a part of what is behind it
