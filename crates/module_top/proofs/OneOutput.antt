@@ -7,7 +7,7 @@ use Rattle.state_model.specs.MachineState.{MachineState, initial_state}
 use Rattle.command_serving.specs.FrameGrammar.{frame_grammar, frame_grammar_is_lawful}
 use Rattle.command_serving.proofs.OneRun.{one_stream}
 use Rattle.line_serving.proofs.LineRuns.{one_lines}
-use Rattle.vector_reports.proofs.ReportRuns.{one_report}
+use Rattle.vector_reports.proofs.OneReport.{one_report}
 use Rattle.module_top.specs.declared.words.Work.{Work}
 use Rattle.module_top.specs.declared.words.Work.TheVariants as work
 use Rattle.module_top.specs.Forms.{FormValue, OnModule, Digest, Vectors, form_of}

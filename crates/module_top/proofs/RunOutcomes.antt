@@ -21,7 +21,7 @@ use Rattle.module_top.specs.Works.{RunsWork, LeavesWork}
 use Rattle.module_top.specs.Outcomes.{is_refusal, reads_source, work_reads, HasLongImage, HasBadDigest, IsWorkedOn, IsDigested, IsWorkOf, ReadsStay, Outside, IsWorkOutcome, IsOutcome, ImageRefused, DigestRefused}
 use Rattle.module_top.proofs.NamedFiles.{not_above, long_first, not_bad}
 use Rattle.vector_reports.specs.declared.reporting.Reported.{Reported}
-use Rattle.vector_reports.proofs.ReportRuns.{report_of}
+use Rattle.vector_reports.proofs.VectorRuns.{vectors_of}
 use Rattle.module_top.proofs.WorkRuns.{work_of}
 
 -- where files tell, a fact about them gives another
@@ -300,8 +300,8 @@ work_output calls engine files (Some (Digest image_name)) status bytes gained af
       | inl whole ↦ (digest_line calls engine digested.image, inr (digested.image, digested.named, digested.fits, (whole.0, refl)), whole.1)
       | inr part ↦ absurd (no_write part.0)
     ]
-work_output calls engine files (Some Vectors) status bytes gained after (answer, is, reports) no_read no_write =
-    let made = report_of calls engine answer CHUNK bytes gained after reports (λ e. no_read (is ∙ ap report_status e)) (λ e. no_write (is ∙ ap report_status e)) in
+work_output calls engine files (Some Vectors) status bytes gained after (answer, last, is, reports) no_read no_write =
+    let made = vectors_of calls answer CHUNK engine last bytes gained after reports (λ e. no_read (is ∙ ap report_status e)) (λ e. no_write (is ∙ ap report_status e)) in
     (made.0, (answer, is, made.1), made.2)
 
 -- the refusals that aren't a failed call or want of memory
