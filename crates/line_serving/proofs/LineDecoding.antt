@@ -45,7 +45,7 @@ text_is_ready start text is = record { no_earlier_fault = refl; no_fault = none_
 
 pub decoded_more : (c : Inside) (lines : HeldLine) (command : CommandFrame) (piece : List ℕ) → IsLineCodec c → IsReady line_grammar (fragment_of c) → TakesLine c.lines piece taken.More lines command
     → Decodes line_grammar (fragment_of c) piece decoded.More (fragment_of (record c { lines = lines; command = command }))
-decoded_more c lines command piece kept ready (is, fits) =
+decoded_more c lines command piece kept ready (is, fits, none) =
     let unfinished = ready_is_unfinished c kept ready in
     let stands : lines.whole ≡ false = ap (λ (line : HeldLine). line.whole) is ∙ unfinished.stands in
     let text : lines.text ≡ c.lines.text ++ piece = ap (λ (line : HeldLine). line.text) is in
@@ -71,7 +71,7 @@ decoded_command c lines command piece count kept ready (ends, is, spells) =
 pub decoded_comment : (c : Inside) (lines : HeldLine) (command : CommandFrame) (piece : List ℕ) (count : ℕ) → IsLineCodec c → IsReady line_grammar (fragment_of c)
     → TakesLine c.lines piece (taken.Comment count) lines command
     → Decodes line_grammar (fragment_of c) piece (decoded.Skipped count) (fragment_of (record c { lines = lines; command = command; ended = c.ended + 1 }))
-decoded_comment c lines command piece count kept ready (line, ends, comment, is) =
+decoded_comment c lines command piece count kept ready (line, ends, comment, is, none) =
     let unfinished = ready_is_unfinished c kept ready in
     let whole : ended_line line ≡ held_bytes c.lines ++ take count piece = sym ends.whole ∙ ap (λ xs. xs ++ take count piece) (sym (held_text c.lines unfinished.stands)) in
     let one : c.ended + 1 ≡ c.ended + line_feeds (held_bytes c.lines ++ take count piece) = ap (λ n. c.ended + n) (sym (one_feed line ends.no_feed) ∙ ap line_feeds whole) in
@@ -84,7 +84,7 @@ decoded_comment c lines command piece count kept ready (line, ends, comment, is)
 
 pub decoded_fault : (c : Inside) (lines : HeldLine) (command : CommandFrame) (piece : List ℕ) → IsLineCodec c → IsReady line_grammar (fragment_of c) → TakesLine c.lines piece taken.Bad lines command → (new : Fragment)
     → Decodes line_grammar (fragment_of c) piece (decoded.Fault (c.ended + 1)) new
-decoded_fault c lines command piece kept ready (bad, nothing, none) new =
+decoded_fault c lines command piece kept ready (bad, nothing, stands, none) new =
     let unfinished = ready_is_unfinished c kept ready in
     let Bad : List ℕ → Type 0 = λ xs. BeginsBad (xs ++ piece) in
     ap (λ found. option_map (λ number. c.ended + number) found) (bad_shows (held_bytes c.lines ++ piece) (subst Bad (sym (held_text c.lines unfinished.stands)) bad))
@@ -119,10 +119,11 @@ text_is_all c kept ready = held_text c.lines (ready_is_unfinished c kept ready).
 -- the type's rule, where a line may go on
 pub kept_more : (c : Inside) (lines : HeldLine) (command : CommandFrame) (piece : List ℕ) → IsLineCodec c → IsUnfinished c.lines → TakesLine c.lines piece taken.More lines command
     → IsLineCodec (record c { lines = lines; command = command })
-kept_more c lines command piece kept unfinished (is, fits) =
+kept_more c lines command piece kept unfinished (is, fits, none) =
     let stands : lines.whole ≡ false = ap (λ (line : HeldLine). line.whole) is ∙ unfinished.stands in
     let not_refused : lines.too_long ≡ false = ap (λ (line : HeldLine). line.too_long) is ∙ unfinished.not_refused in record {
       no_feed = fits.no_feed;
+      no_command = λ stands. none;
       spelled = λ whole. let wrong : true ≡ false = sym whole ∙ stands in absurd (cc wrong);
       countable = λ whole. let wrong : true ≡ false = sym whole ∙ stands in absurd (cc wrong);
       refused = λ refused. let wrong : true ≡ false = sym refused ∙ not_refused in absurd (cc wrong);
@@ -134,6 +135,7 @@ pub kept_reply : (c : Inside) (reply : OutboxContents) → IsLineCodec c → rep
 kept_reply c reply kept gone =
     record {
       no_feed = kept.no_feed;
+      no_command = kept.no_command;
       spelled = kept.spelled;
       countable = kept.countable;
       refused = kept.refused;

@@ -3,7 +3,7 @@ use Rattle.std.specs.Prelude.{◌≡◌, ◌≤◌, ◌<◌, ◌++◌, ℕ, List
 use Rattle.line_input.specs.TextLines.{HasNoLineFeed, ended_line}
 use Rattle.line_input.specs.HeldLines.{HeldLine, IsLineText, no_line}
 use Rattle.module_frames.specs.CommandFrames.{CommandFrame}
-use Rattle.operator_text.specs.Spelling.{Spells, IsComment}
+use Rattle.operator_text.specs.Spelling.{Spells, IsComment, cleared_command}
 use Rattle.line_serving.specs.declared.taking.Taken.{Taken}
 use Rattle.line_serving.specs.declared.taking.Taken.TheVariants as taken
 use Rattle.command_lines.specs.CommandLines.{BeginsBad}
@@ -25,14 +25,14 @@ pub record EndsLine (held piece : List ℕ) (count : ℕ) (line : List ℕ) : Ty
   pub whole : held ++ take count piece ≡ ended_line line
   pub no_feed : HasNoLineFeed line
 
--- what is answered to a piece, and what is held then, beside the command that was read
+-- what is answered to a piece, and what is held then, with the command of a line that stands, or no command
 abbrev pub TakesLine : HeldLine → List ℕ → Taken → HeldLine → CommandFrame → Type 0
 -- all was taken, and the line may go on
-TakesLine old piece taken.More new command = (new ≡ record old { text = old.text ++ piece }) × IsLineText new.text
+TakesLine old piece taken.More new command = (new ≡ record old { text = old.text ++ piece }) × IsLineText new.text × (command ≡ cleared_command)
 -- so many bytes were taken, and the line that stands spells the command
 TakesLine old piece (taken.Command count) new command =
     EndsLine old.text piece count new.text × (new ≡ record old { text = new.text; whole = true }) × Spells new.text command
 -- so many bytes were taken, and were the end of a comment
-TakesLine old piece (taken.Comment count) new command = (line : List ℕ) × EndsLine old.text piece count line × IsComment line × (new ≡ no_line)
+TakesLine old piece (taken.Comment count) new command = (line : List ℕ) × EndsLine old.text piece count line × IsComment line × (new ≡ no_line) × (command ≡ cleared_command)
 -- the bytes begin with a bad line, and none of it is held
-TakesLine old piece taken.Bad new command = BeginsBad (old.text ++ piece) × (new.text ≡ []) × (new.whole ≡ false)
+TakesLine old piece taken.Bad new command = BeginsBad (old.text ++ piece) × (new.text ≡ []) × (new.whole ≡ false) × (command ≡ cleared_command)

@@ -23,7 +23,7 @@ use std::marker::Model;
 use stream_calls::write_all;
 
 /// Reads commands from lines, and writes replies as lines. Contracts see the bytes held of a line, how many lines ended before it, and the
-/// number of a bad line once one came. By a rule of the type no byte of a reply is held.
+/// number of a bad line once one came. By a rule of the type no command is held but that of a line that stands, and no byte of a reply.
 #[derive(Drop)]
 pub struct LineCodec {
     lines: Lines,

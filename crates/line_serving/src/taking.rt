@@ -1,4 +1,6 @@
 // Lines of a stream, and what each of them is.
+ghost use Rattle.std.specs.Prelude.{◌≡◌};
+ghost use Rattle.operator_text.specs.Spelling.{cleared_command};
 ghost use Rattle.line_serving.specs.LineTaking.{IsUnfinished, TakesLine};
 
 use line_input::{LineFed, Lines};
@@ -18,9 +20,11 @@ pub enum Taken {
     Bad,
 }
 
-/// Takes bytes from the front of a piece, up to the end of a line, and reads that line. Only one that spells a command is held then.
+/// Takes bytes from the front of a piece, up to the end of a line, and reads that line. Only one that spells a command is held then, with
+/// its command; no command is held else, nor was.
 pub fn take_line(lines: &mut Lines, command: &mut Command, piece: &[u8]) -> Taken
-    requires { IsUnfinished lines.old }
+    requires unfinished { IsUnfinished lines.old }
+    requires no_command { command.old ≡ cleared_command }
     ensures { TakesLine lines.old piece.now result lines.new command.new }
 {
     match lines.feed(piece) {

@@ -6,9 +6,10 @@ use Rattle.line_serving.proofs.taking.take_line.Goals as goal
 
 pub returns-in-Bad : goal.returns-in-Bad
 returns-in-Bad c =
-    let taken = c.in-Whole.ensures.fed.before c.requires.not_refused in
+    let taken = c.in-Whole.ensures.fed.before c.requires.unfinished.not_refused in
     let bad : IsBadLine c.line.result.now = record { no_comment = c.in-Bad.ensures.0; no_command = c.in-Bad.ensures.1 } in (
       (bad_line_shows c.args.lines.now.text c.args.piece.now c.feed.new.self.text c.in-Whole.count taken.2.no_feed taken.1 (subst IsBadLine c.line.ensures.line bad)),
       ap (λ (line : HeldLine). line.text) c.clear-in-Bad.ensures,
       ap (λ (line : HeldLine). line.whole) c.clear-in-Bad.ensures,
+      c.in-Bad.ensures.2,
     )

@@ -7,8 +7,8 @@ use Rattle.command_serving.specs.declared.codec.Decoded.TheVariants as decoded
 use Rattle.line_serving.proofs.LineDecoding.{ready_is_unfinished, decoded_more, decoded_command, decoded_comment, decoded_fault, kept_more}
 use Rattle.line_serving.proofs.line_codec.LineCodecCodec.decode.Goals as goal
 
-pub take_line-requires : goal.take_line-requires
-take_line-requires c =
+pub take_line-requires-clause-unfinished : goal.take_line-requires-clause-unfinished
+take_line-requires-clause-unfinished c =
     let Ready : Fragment → Type 0 = λ held. IsReady line_grammar held in
     ready_is_unfinished c.self.inside c.self.invariant (subst Ready (sym c.self.view_is) c.requires.ready)
 
@@ -41,3 +41,8 @@ returns-in-Bad c =
     let Ready : Fragment → Type 0 = λ held. IsReady line_grammar held in
     let After : Fragment → Type 0 = λ held. Decodes line_grammar held c.args.piece.now (decoded.Fault (c.self.inside.ended + 1)) held in
     subst After c.self.view_is (decoded_fault c.self.inside c.take_line.new.lines c.take_line.new.command c.args.piece.now c.self.invariant (subst Ready (sym c.self.view_is) c.requires.ready) c.in-Bad.ensures (fragment_of c.self.inside))
+
+pub take_line-requires-clause-no_command : goal.take_line-requires-clause-no_command
+take_line-requires-clause-no_command c =
+    let Ready : Fragment → Type 0 = λ held. IsReady line_grammar held in
+    c.self.invariant.no_command (ready_is_unfinished c.self.inside c.self.invariant (subst Ready (sym c.self.view_is) c.requires.ready)).stands
