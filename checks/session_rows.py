@@ -52,15 +52,20 @@ def check_sum(data):
     return total
 
 
-print("//! Rows of sessions, written by checks/session_rows.py; see there.\n")
-print("/// A seed, a count, the numbers of the services of the first eight commands that are drawn, the lengths of their bodies, and the")
-print("/// FNV-1a check sum of all commands.")
-print("pub(crate) type Row = (u64, u32, [u8; 8], [usize; 8], u64);\n")
-print(f"pub(crate) const ROWS: [Row; {len(SESSIONS)}] = [")
-for seed, count in SESSIONS:
-    commands = session(seed, count)
-    joined = b"".join(bytes([s]) + len(b).to_bytes(4, "big") + b for s, b in commands)
-    eight = commands[11:19]
-    services = ", ".join(f"0x{s:02x}" for s, _ in eight)
-    print(f"    ({seed}, {count}, [{services}], {[len(b) for _, b in eight]}, 0x{check_sum(joined):016x}),")
-print("];")
+def main():
+    print("//! Rows of sessions, written by checks/session_rows.py; see there.\n")
+    print("/// A seed, a count, the numbers of the services of the first eight commands that are drawn, the lengths of their bodies, and the")
+    print("/// FNV-1a check sum of all commands.")
+    print("pub(crate) type Row = (u64, u32, [u8; 8], [usize; 8], u64);\n")
+    print(f"pub(crate) const ROWS: [Row; {len(SESSIONS)}] = [")
+    for seed, count in SESSIONS:
+        commands = session(seed, count)
+        joined = b"".join(bytes([s]) + len(b).to_bytes(4, "big") + b for s, b in commands)
+        eight = commands[11:19]
+        services = ", ".join(f"0x{s:02x}" for s, _ in eight)
+        print(f"    ({seed}, {count}, [{services}], {[len(b) for _, b in eight]}, 0x{check_sum(joined):016x}),")
+    print("];")
+
+
+if __name__ == "__main__":
+    main()

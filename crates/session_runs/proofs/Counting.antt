@@ -1,7 +1,7 @@
 -- Each reply is counted once, by the number of its status.
-use Rattle.std.proofs.Common.{◌≡◌, ◌+◌, ◌==◌, ℕ, List, [], ◌∷◌, length, map, cond, refl, sym, ap, ◌∙◌, arith}
+use Rattle.std.proofs.Common.{◌≡◌, ◌+◌, ◌==◌, ℕ, List, [], ◌∷◌, length, map, cond, refl, arith}
 use Rattle.std.proofs.lemmas.List.Sums.{sum_by-cons}
-use Rattle.std.specs.List.{sum, sum_by, range_with_len}
+use Rattle.std.specs.List.{sum, range_with_len}
 use Rattle.service_table.specs.Numbers.{status_number}
 use Rattle.service_table.specs.declared.status.Status.{Status}
 use Rattle.service_table.specs.declared.status.Status.TheVariants as status

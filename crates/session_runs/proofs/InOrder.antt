@@ -1,13 +1,12 @@
 -- No command of a session is out of order.
-use Rattle.std.proofs.Common.{◌≡◌, ◌+◌, ◌==◌, ◌%◌, ℕ, zero, suc, Bool, true, false, if◌then◌else◌, List, [], ◌∷◌, ◌++◌, length, None, cond, refl, sym, ap, ◌∙◌, arith, length-append}
+use Rattle.std.proofs.Common.{◌≡◌, ◌==◌, ◌%◌, ℕ, zero, suc, Bool, true, false, if◌then◌else◌, List, [], ◌∷◌, length, None, refl, ap, arith}
 use Rattle.std.specs.List.{AllByRecursion}
 use Rattle.outside.specs.declared.traits.Sample.{Sample}
 use Rattle.engine_core.specs.Calls.{Calls}
-use Rattle.service_table.specs.Numbers.{status_number}
 use Rattle.service_table.specs.declared.status.Status.{Status}
 use Rattle.service_table.specs.declared.status.Status.TheVariants as status
 use Rattle.module_frames.specs.CommandFrames.{CommandFrame}
-use Rattle.session_commands.specs.SessionCommands.{first_commands, drawn_command, drawn_commands, next_number, upper_half, session_commands}
+use Rattle.session_commands.specs.SessionCommands.{drawn_command, drawn_commands, next_number, upper_half, session_commands}
 use Rattle.state_model.specs.Laws.{OutOfOrderByTheNumber}
 use Rattle.state_model.specs.MachineState.{MachineState}
 use Rattle.state_model.specs.Runs.{run_commands}
@@ -41,14 +40,6 @@ pub session_is_unnumbered : (seed count : ℕ) → AllByRecursion IsUnnumbered (
 session_is_unnumbered seed count =
     let drawn = drawn_are_unnumbered seed count in
     (refl, (refl, (refl, (refl, (refl, (refl, (refl, (refl, (refl, (refl, (refl, drawn)))))))))))
-
-drawn_long : (x count : ℕ) → length (drawn_commands x count) ≡ count
-unfolding drawn_commands
-drawn_long x zero = refl
-drawn_long x (suc count) = ap (λ (n : ℕ). suc n) (drawn_long (next_number x) count)
-
-pub session_long : (seed count : ℕ) → length (session_commands seed count) ≡ 11 + count
-session_long seed count = omega (arith, length-append first_commands (drawn_commands seed count), drawn_long seed count)
 
 pub replies_long : {V : Type 0} (calls : Calls V) (s : MachineState V) (events : List Sample) (commands : List CommandFrame)
     → length (run_commands calls s events commands).replies ≡ length commands

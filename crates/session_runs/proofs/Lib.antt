@@ -2,3 +2,4 @@ mod Counting
 pub mod InOrder
 mod CommandSteps
 mod Rows
+pub mod SessionLengths

@@ -5,6 +5,8 @@ mod laws;
 mod limits;
 mod running;
 mod summaries;
+#[cfg(test)]
+mod summary_rows;
 mod tally;
 #[cfg(test)]
 mod tests;

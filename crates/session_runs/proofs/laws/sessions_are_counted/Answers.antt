@@ -2,7 +2,8 @@ use Rattle.std.proofs.Common.{arith}
 use Rattle.session_commands.specs.SessionCommands.{session_commands}
 use Rattle.state_model.specs.Runs.{run_commands}
 use Rattle.session_runs.proofs.Counting.{counted_once}
-use Rattle.session_runs.proofs.InOrder.{none_out_of_order, replies_long, session_is_unnumbered, session_long}
+use Rattle.session_runs.proofs.InOrder.{none_out_of_order, replies_long, session_is_unnumbered}
+use Rattle.session_runs.proofs.SessionLengths.{session_long}
 use Rattle.session_runs.proofs.laws.sessions_are_counted.Goals as goal
 
 pub returns-clause-once : goal.returns-clause-once

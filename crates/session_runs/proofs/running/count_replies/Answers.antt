@@ -1,13 +1,8 @@
-use Rattle.std.proofs.Common.{◌≡◌, ◌+◌, ◌∷◌, ◌++◌, [], ℕ, List, length, refl, ap, sym, ◌∙◌, subst, arith}
+use Rattle.std.proofs.Common.{◌+◌, ◌∷◌, ◌++◌, [], ℕ, refl, ap, sym, ◌∙◌}
 use Rattle.std.proofs.lemmas.List.{length_push}
-use Rattle.outside.specs.declared.traits.Sample.{Sample}
-use Rattle.outside.specs.Explained.{Explained}
 use Rattle.outside.proofs.Explanations.{explained_none, explained_both}
-use Rattle.module_frames.specs.CommandFrames.{CommandFrame}
-use Rattle.module_frames.specs.ReplyFrames.{ReplyFrame}
 use Rattle.module_frames.specs.Replies.{frame_of}
-use Rattle.session_runs.specs.SessionRuns.{Answers}
-use Rattle.session_runs.proofs.CommandSteps.{answers_none, answers_more, given_more, given_all}
+use Rattle.session_runs.proofs.CommandSteps.{answers_none, answers_more, given_more}
 use Rattle.session_runs.proofs.running.count_replies.Goals as goal
 
 pub loop-module-init : goal.loop-module-init
@@ -24,5 +19,5 @@ loop-module-preserved g c =
       length_push replies (frame_of reply) ∙ ap (λ (n : ℕ). n + 1) long ∙ sym (length_push done command),
       c.count.ensures replies is,
       explained_both _ _ _ answers c.command.ensures.step (λ events mid left first second.
-      answers_more g.E.Engine.calls c.args.module.now c.loop-module.module c.command.new.self done replies command reply events mid left first second),
+          answers_more g.E.Engine.calls c.args.module.now c.loop-module.module c.command.new.self done replies command reply events mid left first second),
     )

@@ -1,6 +1,6 @@
-use Rattle.std.proofs.Common.{◌++◌, List, ℕ, ap, get_or, ◌∙◌}
+use Rattle.std.proofs.Common.{get_or}
 use Rattle.session_runs.proofs.Rows.{whole_summary}
-use Rattle.session_runs.specs.Summaries.{word_line, reply_bytes}
+use Rattle.session_runs.specs.Summaries.{reply_bytes}
 use Rattle.session_runs.proofs.summaries.put_lines.Goals as goal
 
 pub returns-clause-put : goal.returns-clause-put
