@@ -41,17 +41,25 @@ report_so_far calls v gained now taken held text done = record {
 
 -- nothing was asked for once a bad line showed
 pub asked_no_further : {V : Type 0} (calls : Calls V) (v : V) (gained : Option (List ℕ)) (now : ReportState V) (earlier last held : List ℕ) (chunk : ℕ) → IsLineText held
-    → ChunkReported calls (beginning v gained) [] earlier now held → length last ≤ chunk → AskedNoFurther calls v chunk (earlier ++ last)
-asked_no_further calls v gained now earlier last held chunk text done within = record {
+    → ChunkReported calls (beginning v gained) [] earlier now held → length last ≤ chunk → length (earlier ++ last) ≤ STREAM_MAX → AskedNoFurther calls v chunk (earlier ++ last)
+asked_no_further calls v gained now earlier last held chunk text done short within = record {
   earlier = earlier;
   last = last;
   whole = refl;
-  chunk_length = within;
+  chunk_length = short;
   reads = done.reads;
   engine = now.engine;
   report = report_so_far calls v gained now earlier held text done;
   none_bad = done.none_bad;
+  within = within;
 }
+
+-- nor once a read failed or answered that the source is at its end
+asked_all : {V : Type 0} (calls : Calls V) (v : V) (gained : Option (List ℕ)) (now : ReportState V) (taken held : List ℕ) (chunk : ℕ) → IsLineText held
+    → ChunkReported calls (beginning v gained) [] taken now held → length taken ≤ STREAM_MAX → AskedNoFurther calls v chunk taken
+asked_all {V} calls v gained now taken held chunk text done within =
+    let Asked : List ℕ → Type 0 = λ xs. AskedNoFurther calls v chunk xs in
+    subst Asked (append-nil taken) (asked_no_further calls v gained now taken [] held chunk text done (omega arith) (omega (arith, within, length-append taken [])))
 
 -- the last line by the numbers is that of the reads
 ending_text : (tally : Tally) (reads : List VectorRead) → has_bad reads ≡ false → tally ≡ tally_after no_lines reads → last_line tally.passed tally.checked ≡ ending_line reads
@@ -60,14 +68,15 @@ ending_text tally reads none is = rw none (ap (λ (t : Tally). last_line t.passe
 -- the source may go on, and the last line was written
 pub open_written : {V : Type 0} (calls : Calls V) (answer : Reported) (chunk : ℕ) (v : V) (now : ReportState V) (taken held : List ℕ) (left left' gained gained' : Option (List ℕ)) → IsLineText held
     → (done : ChunkReported calls (beginning v gained) [] taken now held) → Consumes left taken left' → Appends now.gained (last_line now.tally.passed now.tally.checked) gained'
-    → EndsBy calls v answer chunk taken done.reads false left
+    → length taken ≤ STREAM_MAX → EndsBy answer taken done.reads false
     → ReportWritten calls answer chunk v now.engine (record { left = left; gained = gained }) (record { left = left'; gained = gained' })
-open_written {V} calls answer chunk v now taken held left left' gained gained' text done consumes written why =
+open_written {V} calls answer chunk v now taken held left left' gained gained' text done consumes written within why =
     let Written : List ℕ → Type 0 = λ xs. Appends gained (report_lines 0 done.reads ++ xs) gained' in record {
       taken = taken;
       ended = false;
       reads = done.reads;
       consumes = consumes;
+      asked = asked_all calls v gained now taken held chunk text done within;
       of_taken = record { report = report_so_far calls v gained now taken held text done; at_end = λ e. absurd (cc) };
       written = subst Written (ending_text now.tally done.reads done.none_bad done.tally)
           (appends_both gained now.gained gained' (report_lines 0 done.reads) (last_line now.tally.passed now.tally.checked) done.written written);
@@ -82,11 +91,11 @@ all_lines {V} calls v w lines reads is =
     subst Engine (sym (ap (λ xs. take (length lines) xs) (sym (append-nil lines)) ∙ take_at lines [] (length lines) refl)) (sym (ap (λ (f : LinesFound V). f.engine) is))
 
 -- and a part of it was written
-pub open_cut : {V : Type 0} (calls : Calls V) (v : V) (now : ReportState V) (taken held : List ℕ) (left left' gained gained' : Option (List ℕ)) → IsLineText held
+pub open_cut : {V : Type 0} (calls : Calls V) (chunk : ℕ) (v : V) (now : ReportState V) (taken held : List ℕ) (left left' gained gained' : Option (List ℕ)) → IsLineText held
     → ChunkReported calls (beginning v gained) [] taken now held → Consumes left taken left' → AppendsPart now.gained (last_line now.tally.passed now.tally.checked) gained'
-    → ReportCutOff calls v now.engine (record { left = left; gained = gained }) (record { left = left'; gained = gained' })
+    → length taken ≤ STREAM_MAX → ReportCutOff calls chunk v now.engine (record { left = left; gained = gained }) (record { left = left'; gained = gained' })
 unfolding report_so_far
-open_cut {V} calls v now taken held left left' gained gained' text done consumes part =
+open_cut {V} calls chunk v now taken held left left' gained gained' text done consumes part within =
     let report = report_so_far calls v gained now taken held text done in
     let Part : List ℕ → Type 0 = λ xs. AppendsPart gained (report_lines 0 done.reads ++ xs) gained' in record {
       taken = taken;
@@ -94,6 +103,7 @@ open_cut {V} calls v now taken held left left' gained gained' text done consumes
       reads = done.reads;
       last = now.engine;
       consumes = consumes;
+      asked = asked_all calls v gained now taken held chunk text done within;
       of_taken = record { report = report; at_end = λ e. absurd (cc) };
       part = subst Part (ending_text now.tally done.reads done.none_bad done.tally)
           (part_behind gained now.gained gained' (report_lines 0 done.reads) (last_line now.tally.passed now.tally.checked) done.written part);
@@ -153,12 +163,11 @@ chosen false false number answer is = (λ e. cc, λ e. cc, λ e. cc)
 by_answer : {V : Type 0} (calls : Calls V) (answer : Reported) (chunk : ℕ) (v w : V) (taken : List ℕ) (reads : List VectorRead) (before after : Streams) → IsVectorReport calls v true taken reads w → verdict_of reads ≡ answer
     → IsReadToEnd taken before.left → AskedNoFurther calls v chunk taken → Consumes before.left taken after.left → Appends before.gained (report_of reads) after.gained → Reports calls answer chunk v w before after
 by_answer calls reported.AllPassed chunk v w taken reads before after report verdict to_end asked consumes written =
-    record { taken = taken; ended = true; reads = reads; consumes = consumes; of_taken = record { report = report; at_end = λ e. to_end }; written = written; why = (verdict, refl) }
+    record { taken = taken; ended = true; reads = reads; consumes = consumes; asked = asked; of_taken = record { report = report; at_end = λ e. to_end }; written = written; why = (verdict, refl) }
 by_answer calls reported.SomeFailed chunk v w taken reads before after report verdict to_end asked consumes written =
-    record { taken = taken; ended = true; reads = reads; consumes = consumes; of_taken = record { report = report; at_end = λ e. to_end }; written = written; why = (verdict, refl) }
+    record { taken = taken; ended = true; reads = reads; consumes = consumes; asked = asked; of_taken = record { report = report; at_end = λ e. to_end }; written = written; why = (verdict, refl) }
 by_answer calls (reported.BadLine number) chunk v w taken reads before after report verdict to_end asked consumes written =
-    let below = to_end.0 in
-    record { taken = taken; ended = true; reads = reads; consumes = consumes; of_taken = record { report = report; at_end = λ e. to_end }; written = written; why = (verdict, omega (arith, below), asked) }
+    record { taken = taken; ended = true; reads = reads; consumes = consumes; asked = asked; of_taken = record { report = report; at_end = λ e. to_end }; written = written; why = verdict }
 by_answer calls reported.ReadFault chunk v w taken reads before after report verdict to_end asked consumes written =
     absurd ((chosen (has_bad reads) (passed_in reads == checked_in reads) (length reads) reported.ReadFault verdict).0 refl)
 by_answer calls reported.WriteFault chunk v w taken reads before after report verdict to_end asked consumes written =
@@ -173,20 +182,21 @@ pub end_written : {V : Type 0} (calls : Calls V) (answer : Reported) (chunk : �
     → Reports calls answer chunk v w (record { left = left; gained = gained }) (record { left = left'; gained = gained' })
 end_written {V} calls answer chunk v w now taken held out reads left left' gained gained' text done last is consumes to_end written =
     let Written : List ℕ → Type 0 = λ xs. Appends gained xs gained' in
-    let Asked : List ℕ → Type 0 = λ xs. AskedNoFurther calls v chunk xs in
+    let below = to_end.0 in
     let verdict : verdict_of (done.reads ++ reads) ≡ answer =
     sym (is ∙ closing_verdict (tally_after now.tally reads) reads (done.reads ++ reads) (has_bad_behind done.reads reads done.none_bad) (end_tally calls v gained now taken held reads done)) in
     by_answer calls answer chunk v w taken (done.reads ++ reads) (record { left = left; gained = gained }) (record { left = left'; gained = gained' })
     (report_at_end calls v w gained now taken held out reads done last) verdict to_end
-    (subst Asked (append-nil taken) (asked_no_further calls v gained now taken [] held chunk text done (omega arith))) consumes
+    (asked_all calls v gained now taken held chunk text done (omega (arith, below))) consumes
     (subst Written (end_text calls v w gained now taken held out reads done last) (appends_both gained now.gained gained' (report_lines 0 done.reads) out done.written written))
 
 -- and a part of it was written
-pub end_cut : {V : Type 0} (calls : Calls V) (v w : V) (now : ReportState V) (taken held out : List ℕ) (reads : List VectorRead) (left left' gained gained' : Option (List ℕ))
+pub end_cut : {V : Type 0} (calls : Calls V) (chunk : ℕ) (v w : V) (now : ReportState V) (taken held out : List ℕ) (reads : List VectorRead) (left left' gained gained' : Option (List ℕ)) → IsLineText held
     → ChunkReported calls (beginning v gained) [] taken now held → EndChecked calls now held reads w out → Consumes left taken left' → IsReadToEnd taken left → AppendsPart now.gained out gained'
-    → ReportCutOff calls v w (record { left = left; gained = gained }) (record { left = left'; gained = gained' })
+    → ReportCutOff calls chunk v w (record { left = left; gained = gained }) (record { left = left'; gained = gained' })
 unfolding report_at_end
-end_cut {V} calls v w now taken held out reads left left' gained gained' done last consumes to_end part =
+end_cut {V} calls chunk v w now taken held out reads left left' gained gained' text done last consumes to_end part =
+    let below = to_end.0 in
     let Part : List ℕ → Type 0 = λ xs. AppendsPart gained xs gained' in
     let report = report_at_end calls v w gained now taken held out reads done last in record {
       taken = taken;
@@ -194,6 +204,7 @@ end_cut {V} calls v w now taken held out reads left left' gained gained' done la
       reads = done.reads ++ reads;
       last = w;
       consumes = consumes;
+      asked = asked_all calls v gained now taken held chunk text done (omega (arith, below));
       of_taken = record { report = report; at_end = λ e. to_end };
       part = subst Part (end_text calls v w gained now taken held out reads done last) (part_behind gained now.gained gained' (report_lines 0 done.reads) out done.written part);
       count = length (done.lines ++ remainder_lines true held);
@@ -227,10 +238,10 @@ text_up_to out reads more read is =
     ∙ ap (λ xs. xs ++ ending_line (reads ++ read ∷ more)) (sym (report_both 0 (reads ++ read ∷ []) more) ∙ ap (λ xs. report_lines 0 xs) (append_assoc reads (read ∷ []) more))
 
 -- a write failed in what is reported of a line
-pub line_cut : {V : Type 0} (calls : Calls V) (v : V) (after : ReportState V) (taken out : List ℕ) (read : VectorRead) (left left' gained : Option (List ℕ)) → CheckedUpTo calls (beginning v gained) [] taken read after out
-    → Consumes left taken left' → AppendsPart gained out after.gained → ReportCutOff calls v after.engine (record { left = left; gained = gained }) (record { left = left'; gained = after.gained })
+pub line_cut : {V : Type 0} (calls : Calls V) (chunk : ℕ) (v : V) (after : ReportState V) (taken out : List ℕ) (read : VectorRead) (left left' gained : Option (List ℕ)) → CheckedUpTo calls (beginning v gained) [] taken read after out
+    → Consumes left taken left' → AppendsPart gained out after.gained → AskedNoFurther calls v chunk taken → ReportCutOff calls chunk v after.engine (record { left = left; gained = gained }) (record { left = left'; gained = after.gained })
 unfolding report_up_to
-line_cut {V} calls v after taken out read left left' gained checked consumes part =
+line_cut {V} calls chunk v after taken out read left left' gained checked consumes part asked =
     let more = behind calls read after.engine checked.more in
     let Part : List ℕ → Type 0 = λ xs. AppendsPart gained xs after.gained in
     let to_line : (checked.lines ++ checked.line ∷ []) ++ checked.more ≡ checked.whole_lines ++ remainder_lines false checked.remainder =
@@ -245,6 +256,7 @@ line_cut {V} calls v after taken out read left left' gained checked consumes par
       reads = checked.reads ++ read ∷ more.reads;
       last = more.engine;
       consumes = consumes;
+      asked = asked;
       of_taken = record { report = report_up_to calls v gained after taken out read checked; at_end = λ e. absurd (cc) };
       part = subst Part (text_up_to out checked.reads more.reads read checked.is_report)
           (part_in_front gained after.gained out (report_lines (0 + length (checked.reads ++ read ∷ [])) more.reads ++ ending_line (checked.reads ++ read ∷ more.reads)) part);
@@ -258,9 +270,9 @@ ends_bad reads none = has_bad_behind reads (Bad ∷ []) none
 
 -- a chunk ended with a bad line
 pub bad_written : {V : Type 0} (calls : Calls V) (chunk : ℕ) (v : V) (after : ReportState V) (taken out : List ℕ) (left left' gained : Option (List ℕ)) → CheckedUpTo calls (beginning v gained) [] taken Bad after out
-    → Consumes left taken left' → Appends gained out after.gained → length taken ≤ STREAM_MAX → AskedNoFurther calls v chunk taken
+    → Consumes left taken left' → Appends gained out after.gained → AskedNoFurther calls v chunk taken
     → Reports calls (reported.BadLine after.tally.lines) chunk v after.engine (record { left = left; gained = gained }) (record { left = left'; gained = after.gained })
-bad_written {V} calls chunk v after taken out left left' gained checked consumes written within asked =
+bad_written {V} calls chunk v after taken out left left' gained checked consumes written asked =
     let Written : List ℕ → Type 0 = λ xs. Appends gained xs after.gained in
     let reads = checked.reads ++ Bad ∷ [] in
     let bad = ends_bad checked.reads checked.none_bad in
@@ -271,9 +283,10 @@ bad_written {V} calls chunk v after taken out left left' gained checked consumes
       ended = false;
       reads = reads;
       consumes = consumes;
+      asked = asked;
       of_taken = record { report = report_up_to calls v gained after taken out Bad checked; at_end = λ e. absurd (cc) };
       written = subst Written text written;
-      why = (verdict, within, asked);
+      why = verdict;
     }
 
 -- a write failed, or none did

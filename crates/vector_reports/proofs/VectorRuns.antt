@@ -115,17 +115,18 @@ run_at_bad {V} calls number chunk v w bytes before after written open_end =
     let taken = written.taken in
     let rest = written.consumes.0 in
     let cut = take (STREAM_MAX - length taken) rest in
+    let within = written.asked.within in
     let At_end : Bool → Type 0 = λ e. IsVectorReport calls v e taken reads w in
     let report = subst At_end open_end written.of_taken.report in
-    let bad : has_bad reads ≡ true = bad_chosen (has_bad reads) (passed_in reads == checked_in reads) (length reads) number written.why.0 in
-    let first : take STREAM_MAX bytes ≡ taken ++ cut = ap (λ xs. take STREAM_MAX xs) written.consumes.1 ∙ take_past STREAM_MAX taken rest written.why.1 in
+    let bad : has_bad reads ≡ true = bad_chosen (has_bad reads) (passed_in reads == checked_in reads) (length reads) number written.why in
+    let first : take STREAM_MAX bytes ≡ taken ++ cut = ap (λ xs. take STREAM_MAX xs) written.consumes.1 ∙ take_past STREAM_MAX taken rest within in
     let Whole : List ℕ → Type 0 = λ xs. IsVectorReport calls v true xs reads w in
     let Cut : List ℕ → Type 0 = λ xs. IsVectorReport calls v false xs reads w in
     let cut_ends : bad_line_or reads reported.Limit ≡ verdict_of reads = rw bad refl in (
       report_of reads,
       record {
-        short = λ _. (reads, w, subst Whole (sym written.consumes.1) (bad_stays calls v w taken rest true reads report bad), refl, sym written.why.0);
-        too_long = λ _. (reads, w, subst Cut (sym first) (bad_stays calls v w taken cut false reads report bad), refl, sym (cut_ends ∙ written.why.0));
+        short = λ _. (reads, w, subst Whole (sym written.consumes.1) (bad_stays calls v w taken rest true reads report bad), refl, sym written.why);
+        too_long = λ _. (reads, w, subst Cut (sym first) (bad_stays calls v w taken cut false reads report bad), refl, sym (cut_ends ∙ written.why));
       },
       written.written,
     )
@@ -156,7 +157,7 @@ vectors_of calls reported.AllPassed chunk v w bytes before after written no_read
 vectors_of calls reported.SomeFailed chunk v w bytes before after written no_read no_write = run_at_end calls reported.SomeFailed chunk v w bytes before after written written.why.0 written.why.1
 vectors_of calls (reported.BadLine number) chunk v w bytes before after written no_read no_write =
     elim (cases_Bool written.ended) [
-      | inl ended ↦ run_at_end calls (reported.BadLine number) chunk v w bytes before after written written.why.0 ended
+      | inl ended ↦ run_at_end calls (reported.BadLine number) chunk v w bytes before after written written.why ended
       | inr open_end ↦ run_at_bad calls number chunk v w bytes before after written open_end
     ]
 vectors_of calls reported.Limit chunk v w bytes before after written no_read no_write = run_at_limit calls chunk v w bytes before after written

@@ -17,7 +17,7 @@ use Rattle.vector_reports.specs.declared.reporting.Reported.TheVariants as repor
 abbrev pub IsReadToEnd : List ℕ → Option (List ℕ) → Type 0
 IsReadToEnd taken content = (length taken < STREAM_MAX) × IsAllOf taken content
 
--- Nothing was asked for once a bad line showed: before the last read, of no more bytes than a chunk has, none did.
+-- No more than 2^40 bytes were taken, and none was asked for once a bad line showed: before the last read, of no more bytes than a chunk has, none did.
 pub record AskedNoFurther {V : Type 0} (calls : Calls V) (v : V) (chunk : ℕ) (taken : List ℕ) : Type 0 where
   pub earlier : List ℕ
   pub last : List ℕ
@@ -27,21 +27,21 @@ pub record AskedNoFurther {V : Type 0} (calls : Calls V) (v : V) (chunk : ℕ) (
   pub engine : V
   pub report : IsVectorReport calls v false earlier reads engine
   pub none_bad : has_bad reads ≡ false
+  pub within : length taken ≤ STREAM_MAX
 
--- why it ended so, with a chunk of this length and this content at the beginning
-abbrev pub EndsBy : {V : Type 0} → Calls V → V → Reported → ℕ → (taken : List ℕ) → List VectorRead → (ended : Bool) → Option (List ℕ) → Type 0
+-- why it ended so, with these bytes taken, which were read so
+abbrev pub EndsBy : Reported → (taken : List ℕ) → List VectorRead → (ended : Bool) → Type 0
 -- the source was read to its end, and all of its vectors passed
-EndsBy calls v reported.AllPassed chunk taken reads ended content = (verdict_of reads ≡ reported.AllPassed) × (ended ≡ true)
+EndsBy reported.AllPassed taken reads ended = (verdict_of reads ≡ reported.AllPassed) × (ended ≡ true)
 -- the source was read to its end, and a vector failed
-EndsBy calls v reported.SomeFailed chunk taken reads ended content = (verdict_of reads ≡ reported.SomeFailed) × (ended ≡ true)
--- the line of this number is bad, and no more was asked for
-EndsBy calls v (reported.BadLine number) chunk taken reads ended content =
-    (verdict_of reads ≡ reported.BadLine number) × (length taken ≤ STREAM_MAX) × AskedNoFurther calls v chunk taken
+EndsBy reported.SomeFailed taken reads ended = (verdict_of reads ≡ reported.SomeFailed) × (ended ≡ true)
+-- the line of this number is bad
+EndsBy (reported.BadLine number) taken reads ended = verdict_of reads ≡ reported.BadLine number
 -- a read failed, and the bytes taken show no bad line
-EndsBy calls v reported.ReadFault chunk taken reads ended content = (has_bad reads ≡ false) × (ended ≡ false) × (length taken < STREAM_MAX)
-EndsBy calls v reported.WriteFault chunk taken reads ended content = Unit {0}
+EndsBy reported.ReadFault taken reads ended = (has_bad reads ≡ false) × (ended ≡ false) × (length taken < STREAM_MAX)
+EndsBy reported.WriteFault taken reads ended = Unit {0}
 -- as many bytes were taken as may be, and they show no bad line
-EndsBy calls v reported.Limit chunk taken reads ended content = (has_bad reads ≡ false) × (ended ≡ false) × (length taken ≡ STREAM_MAX)
+EndsBy reported.Limit taken reads ended = (has_bad reads ≡ false) × (ended ≡ false) × (length taken ≡ STREAM_MAX)
 
 -- the bytes taken have this report, and the source has ended behind them only where it was read to its end
 pub record ReportOfTaken {V : Type 0} (calls : Calls V) (v : V) (taken : List ℕ) (ended : Bool) (reads : List VectorRead) (w : V) (content : Option (List ℕ)) : Type 0 where
@@ -49,12 +49,13 @@ pub record ReportOfTaken {V : Type 0} (calls : Calls V) (v : V) (taken : List �
   pub at_end : ended ≡ true → IsReadToEnd taken content
 
 -- A part of the report of the bytes taken was written, and the engine is the one that some of their lines left.
-pub record ReportCutOff {V : Type 0} (calls : Calls V) (v w : V) (before after : Streams) : Type 0 where
+pub record ReportCutOff {V : Type 0} (calls : Calls V) (chunk : ℕ) (v w : V) (before after : Streams) : Type 0 where
   pub taken : List ℕ
   pub ended : Bool
   pub reads : List VectorRead
   pub last : V
   pub consumes : Consumes before.left taken after.left
+  pub asked : AskedNoFurther calls v chunk taken
   pub of_taken : ReportOfTaken calls v taken ended reads last before.left
   pub part : AppendsPart before.gained (report_of reads) after.gained
   pub count : ℕ
@@ -66,9 +67,10 @@ pub record ReportWritten {V : Type 0} (calls : Calls V) (answer : Reported) (chu
   pub ended : Bool
   pub reads : List VectorRead
   pub consumes : Consumes before.left taken after.left
+  pub asked : AskedNoFurther calls v chunk taken
   pub of_taken : ReportOfTaken calls v taken ended reads w before.left
   pub written : Appends before.gained (report_of reads) after.gained
-  pub why : EndsBy calls v answer chunk taken reads ended before.left
+  pub why : EndsBy answer taken reads ended
 
 -- what reporting leaves, by its answer
 abbrev pub Reports : {V : Type 0} → Calls V → Reported → ℕ → V → V → Streams → Streams → Type 0
@@ -76,7 +78,7 @@ Reports calls reported.AllPassed chunk v w before after = ReportWritten calls re
 Reports calls reported.SomeFailed chunk v w before after = ReportWritten calls reported.SomeFailed chunk v w before after
 Reports calls (reported.BadLine number) chunk v w before after = ReportWritten calls (reported.BadLine number) chunk v w before after
 Reports calls reported.ReadFault chunk v w before after = ReportWritten calls reported.ReadFault chunk v w before after
-Reports calls reported.WriteFault chunk v w before after = ReportCutOff calls v w before after
+Reports calls reported.WriteFault chunk v w before after = ReportCutOff calls chunk v w before after
 Reports calls reported.Limit chunk v w before after = ReportWritten calls reported.Limit chunk v w before after
 
 -- How the count of a source's faults may stand, by the answer: a failed read is followed by the write of the last line, which may fail too.

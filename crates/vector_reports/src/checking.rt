@@ -25,7 +25,11 @@ pub enum LinesEnd {
 }
 
 /// Counts a line that was found to be this, and writes what is reported of it.
-pub fn report_read<K: Sink>(report: &mut K, tally: &mut Tally, read: VectorRead) -> Result<(), Failed>
+pub fn report_read<K: Sink>(
+    report: &mut K,
+    tally: &mut Tally,
+    read: VectorRead,
+) -> Result<(), Failed>
     requires { IsTally tally.old (2 ^ 63) }
     ensures counted { tally.new ≡ tally_after tally.old (read ∷ []) }
     ensures whole { OnOk result (Appends (K.gained report.old) (report_line (tally.old.lines + 1) read) (K.gained report.new)) }

@@ -6,9 +6,9 @@ mod chunks;
 mod laws;
 mod reporting;
 mod tally;
-mod text;
 #[cfg(test)]
 mod tests;
+mod text;
 
 pub use laws::has_one_report;
 pub use reporting::{Reported, report_vectors};

@@ -1,5 +1,5 @@
 // The report of a source's vector lines.
-ghost use Rattle.std.specs.Prelude.{◌≡◌, ◌≢◌, ◌≤◌, ◌<◌, ◌==◌, if◌then◌else◌, [], false, OnOk, OnErr, length, replicate};
+ghost use Rattle.std.specs.Prelude.{◌≡◌, ◌≢◌, ◌≤◌, ◌<◌, ◌==◌, ◌++◌, ℕ, List, Some, if◌then◌else◌, [], false, OnOk, OnErr, length, replicate};
 ghost use Rattle.bits_core.specs.ByteList.{zeros};
 ghost use Rattle.line_input.specs.HeldLines.{no_line};
 ghost use Rattle.outside.specs.Contents.{Appends};
@@ -8,6 +8,7 @@ ghost use Rattle.stream_calls.specs.PartialWrites.{AppendsPart};
 ghost use Rattle.vector_reports.specs.Progress.{IsTally, IsLineBegun, EndReported, EndCutOff};
 ghost use Rattle.vector_reports.specs.ReportText.{last_line};
 ghost use Rattle.vector_reports.specs.Reporting.{Reports, ReadsLeft, WritesLeft};
+ghost use Rattle.vector_reports.specs.Runs.{RunsVectors};
 
 use crate::checking::{LinesEnd, report_line};
 use crate::chunks::report_chunk;
@@ -165,6 +166,10 @@ pub fn report_vectors<E: Engine, S: Source, K: Sink>(
     ensures reported { Reports E.calls result (length chunk.old) engine.old engine.new
         (record { left = S.left vectors.old; gained = K.gained report.old })
         (record { left = S.left vectors.new; gained = K.gained report.new }) }
+
+    // Where source and sink tell their bytes and no call failed, it is the report of the content.
+    ensures run { (bytes before : List ℕ) → S.left vectors.old ≡ Some bytes → K.gained report.old ≡ Some before → result ≢ Reported.ReadFault → result ≢ Reported.WriteFault →
+        (out : List ℕ) × RunsVectors E.calls engine.old bytes result out × (K.gained report.new ≡ Some (before ++ out)) }
 
     // Each fault comes only where that object's count rose.
     ensures reads { ReadsLeft result (S.faults vectors.old) (S.faults vectors.new) }

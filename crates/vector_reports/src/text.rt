@@ -24,7 +24,12 @@ fn write_number<K: Sink>(report: &mut K, number: u64, word: &[u8]) -> Result<(),
 }
 
 // Writes a word, a number and the word behind it.
-fn write_words<K: Sink>(report: &mut K, first: &[u8], number: u64, word: &[u8]) -> Result<(), Failed>
+fn write_words<K: Sink>(
+    report: &mut K,
+    first: &[u8],
+    number: u64,
+    word: &[u8],
+) -> Result<(), Failed>
     ensures whole { OnOk result (Appends (K.gained report.old) (first.now ++ (decimal number ++ word.now)) (K.gained report.new)) }
     ensures part { OnErr result (AppendsPart (K.gained report.old) (first.now ++ (decimal number ++ word.now)) (K.gained report.new)) }
     ensures fault_counted { OnErr result (FaultCounted (K.faults report.old) (K.faults report.new)) }

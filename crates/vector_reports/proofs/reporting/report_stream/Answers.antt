@@ -40,9 +40,9 @@ returns-in-Err-clause-reported g c =
     let consumes : Consumes left so_far.0 left' = subst (λ xs. Consumes left so_far.0 xs) (sym c.in-Err.ensures.kept) so_far.1 in
     let Ends : Reported → Type 0 = λ answer. Reports calls answer (length c.args.chunk.now) v c.loop-taken.engine (record { left = left; gained = gained }) (record { left = left'; gained = gained' }) in
     elim (write_failed_or_not c.close_report.result) [
-      | inl failed ↦ subst Ends (sym failed) (open_cut calls v now so_far.0 c.loop-taken.lines.text left left' gained gained' i.begun.text so_far.3 consumes (c.close_report.ensures.part failed))
+      | inl failed ↦ subst Ends (sym failed) (open_cut calls (length c.args.chunk.now) v now so_far.0 c.loop-taken.lines.text left left' gained gained' i.begun.text so_far.3 consumes (c.close_report.ensures.part failed) (omega (arith, so_far.2, c.loop-taken-test.true)))
       | inr whole ↦ subst Ends (sym (c.close_report.ensures.answer whole))
-          (open_written calls _ (length c.args.chunk.now) v now so_far.0 c.loop-taken.lines.text left left' gained gained' i.begun.text so_far.3 consumes (c.close_report.ensures.whole whole)
+          (open_written calls _ (length c.args.chunk.now) v now so_far.0 c.loop-taken.lines.text left left' gained gained' i.begun.text so_far.3 consumes (c.close_report.ensures.whole whole) (omega (arith, so_far.2, c.loop-taken-test.true))
           (so_far.3.none_bad, refl, omega (arith, so_far.2, c.loop-taken-test.true)))
     ]
 
@@ -67,7 +67,7 @@ returns-in-Ok-eq0-clause-reported g c =
     let Ends : Reported → Type 0 = λ answer. Reports calls answer (length c.args.chunk.now) v c.report_end.new.engine (record { left = left; gained = gained }) (record { left = left'; gained = gained' }) in
     elim (write_failed_or_not c.report_end.result) [
       | inl failed ↦ (let cut = c.report_end.ensures.write_fault failed in
-          subst Ends (sym failed) (end_cut calls v c.report_end.new.engine now so_far.0 c.loop-taken.lines.text cut.1 cut.0 left left' gained gained' so_far.3 cut.2 consumes (below, all) cut.3))
+          subst Ends (sym failed) (end_cut calls (length c.args.chunk.now) v c.report_end.new.engine now so_far.0 c.loop-taken.lines.text cut.1 cut.0 left left' gained gained' i.begun.text so_far.3 cut.2 consumes (below, all) cut.3))
       | inr whole ↦ (let (reads, out, checked, written, is) = c.report_end.ensures.ended whole in
           end_written calls c.report_end.result (length c.args.chunk.now) v c.report_end.new.engine now so_far.0 c.loop-taken.lines.text out reads left left' gained gained' i.begun.text so_far.3 checked is consumes (below, all) written)
     ]
@@ -90,23 +90,27 @@ returns-in-Bad-clause-reported g c =
     (up_to_both calls start now after [] so_far.0 c.loop-taken.lines.text piece out _ so_far.3 checked)
     (consumes_both _ _ _ _ _ so_far.1 c.in-Ok.ensures.taken)
     (appends_both _ _ _ (report_lines 0 so_far.3.reads) out so_far.3.written written)
-    (omega (arith, so_far.2, long, length-append so_far.0 piece, c.in-Ok.ensures.size.1, c.loop-taken-test.true))
-    (asked_no_further calls v gained now so_far.0 piece c.loop-taken.lines.text (length c.args.chunk.now) i.begun.text so_far.3 (omega (arith, long, c.in-Ok.ensures.size.0, c.in-Ok.ensures.room, i.chunk)))
+    (asked_no_further calls v gained now so_far.0 piece c.loop-taken.lines.text (length c.args.chunk.now) i.begun.text so_far.3 (omega (arith, long, c.in-Ok.ensures.size.0, c.in-Ok.ensures.room, i.chunk))
+    (omega (arith, so_far.2, long, length-append so_far.0 piece, c.in-Ok.ensures.size.1, c.loop-taken-test.true)))
 
 pub returns-in-WriteFault-clause-reported : goal.returns-in-WriteFault-clause-reported
 returns-in-WriteFault-clause-reported g c =
     let calls = g.E.Engine.calls in
-    let so_far = c.loop-taken.invariant.reported in
+    let i = c.loop-taken.invariant in
+    let so_far = i.reported in
     let v = c.args.engine.now in
     let gained = g.K.Sink.gained c.args.report.now in
     let now : ReportState g.row.E.Denot = record { engine = c.loop-taken.engine; tally = c.loop-taken.tally; gained = g.K.Sink.gained c.loop-taken.report } in
     let after : ReportState g.row.E.Denot = record { engine = c.report_chunk.new.engine; tally = c.report_chunk.new.tally; gained = g.K.Sink.gained c.report_chunk.new.report } in
     let piece = take c.in-Ok.count c.read_some.new.chunk in
+    let long : length piece ≡ c.in-Ok.count = length-take-le c.in-Ok.count c.read_some.new.chunk (omega (arith, c.in-Ok.ensures.size.0)) in
     let (read, out, checked, part) = c.in-WriteFault.ensures.write_fault refl in
-    line_cut calls v after (so_far.0 ++ piece) (report_lines 0 so_far.3.reads ++ out) read (g.S.Source.left c.args.vectors.now) (g.S.Source.left c.read_some.new.source) gained
+    line_cut calls (length c.args.chunk.now) v after (so_far.0 ++ piece) (report_lines 0 so_far.3.reads ++ out) read (g.S.Source.left c.args.vectors.now) (g.S.Source.left c.read_some.new.source) gained
     (up_to_both calls (beginning v gained) now after [] so_far.0 c.loop-taken.lines.text piece out read so_far.3 checked)
     (consumes_both _ _ _ _ _ so_far.1 c.in-Ok.ensures.taken)
     (part_behind _ _ _ (report_lines 0 so_far.3.reads) out so_far.3.written part)
+    (asked_no_further calls v gained now so_far.0 piece c.loop-taken.lines.text (length c.args.chunk.now) i.begun.text so_far.3 (omega (arith, long, c.in-Ok.ensures.size.0, c.in-Ok.ensures.room, i.chunk))
+    (omega (arith, so_far.2, long, length-append so_far.0 piece, c.in-Ok.ensures.size.1, c.loop-taken-test.true)))
 
 pub loop-taken-preserved : goal.loop-taken-preserved
 loop-taken-preserved g c =
@@ -149,8 +153,8 @@ returns-clause-reported g c =
     let gained' = g.K.Sink.gained c.close_report-2.new.report in
     let Ends : Reported → Type 0 = λ answer. Reports calls answer (length c.args.chunk.now) v c.loop-taken.engine (record { left = left; gained = gained }) (record { left = left'; gained = gained' }) in
     elim (write_failed_or_not c.close_report-2.result) [
-      | inl failed ↦ subst Ends (sym failed) (open_cut calls v now so_far.0 c.loop-taken.lines.text left left' gained gained' i.begun.text so_far.3 so_far.1 (c.close_report-2.ensures.part failed))
+      | inl failed ↦ subst Ends (sym failed) (open_cut calls (length c.args.chunk.now) v now so_far.0 c.loop-taken.lines.text left left' gained gained' i.begun.text so_far.3 so_far.1 (c.close_report-2.ensures.part failed) (omega (arith, so_far.2, i.within)))
       | inr whole ↦ subst Ends (sym (c.close_report-2.ensures.answer whole))
-          (open_written calls _ (length c.args.chunk.now) v now so_far.0 c.loop-taken.lines.text left left' gained gained' i.begun.text so_far.3 so_far.1 (c.close_report-2.ensures.whole whole)
+          (open_written calls _ (length c.args.chunk.now) v now so_far.0 c.loop-taken.lines.text left left' gained gained' i.begun.text so_far.3 so_far.1 (c.close_report-2.ensures.whole whole) (omega (arith, so_far.2, i.within))
           (so_far.3.none_bad, refl, omega (arith, so_far.2, i.within, c.loop-taken-test.false)))
     ]
