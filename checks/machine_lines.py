@@ -34,7 +34,7 @@ def need(holds):
 
 def number(word, largest):
     need(re.fullmatch(rb"0|[1-9][0-9]*", word))
-    need(int(word) <= largest)
+    need(len(word) <= len(str(largest)) and int(word) <= largest)
     return int(word)
 
 
