@@ -169,7 +169,7 @@ def longest():
     text = bytes(65_662)
     lines = [
         line("seal", key, b"i", zeros, b"", b"", tag),
-        line("open", key, b"i", b"", zeros, bytes(12), "fail"),
+        line("open", key, b"i", b"", zeros, bytes(12), b""),
         line("derive", b"k", LABEL, CONTEXT, functions.derive(b"k", LABEL, CONTEXT, 65_536)),
         line("drbg", b"e", b"n", b"", generated(b"e", b"n", b"", 65_536)),
         line("kbfeedback", key, LABEL, CONTEXT, derived_by(feedback_mode, key, LABEL, CONTEXT, 65_536)),
@@ -177,7 +177,7 @@ def longest():
     ]
     if len(lines[-1]) != LIMIT:
         raise Surprise(f"a line of {len(lines[-1])} bytes")
-    return checked(lines, True)
+    return checked(lines, [True, False, True, True, True, True])
 
 
 GOOD = f"sha256 616263 {ABC}\n".encode()
