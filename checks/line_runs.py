@@ -46,16 +46,17 @@ def answered(description, made):
 
 
 def written():
-    """The files of the program, by their names."""
+    """The files of the program, by their names, and the number of its runs."""
     files = {f"data/{name}": content for name, content in FILES.items()}
-    descriptions, stdout = "", b""
+    descriptions, stdout, count = "", b"", 0
     for description, made in described():
         if any(SEPARATOR in stream for stream in made.inputs):
             raise Surprise(f"{description}: a separator")
         files[f"data/{description.split(' ')[0]}"] = SEPARATOR.join(made.inputs)
         descriptions += f"{description}\n"
         stdout += answered(description, made)
-    return {**files, "args": descriptions.encode(), "stdout": stdout}
+        count += len(made.inputs)
+    return {**files, "args": descriptions.encode(), "stdout": stdout}, count
 
 
 def content(path):
@@ -71,12 +72,12 @@ def stored():
     return {"args", "stdout"} | {f"data/{name}" for name in os.listdir(os.path.join(CRATE, "data"))}
 
 
-def check(files):
+def check(files, count):
     others = [name for name in sorted(stored() | set(files)) if content(os.path.join(CRATE, name)) != files.get(name)]
     for name in others:
         print(f"rows: FAILED: crates/line_program/{name} is NOT what checks/line_runs.py writes")
     if not others:
-        print(f"rows: checks/line_runs.py: the {sum(len(made.inputs) for _, made in described())} runs of line_program are what it writes")
+        print(f"rows: checks/line_runs.py: the {count} runs of line_program are what it writes")
     return 1 if others else 0
 
 
@@ -85,9 +86,9 @@ def main(words):
         for name, of in RUNS.items():
             print(f"{name:28} {(of.__doc__ or '').splitlines()[0] if of.__doc__ else ''}".rstrip())
         return 0
-    files = written()
+    files, count = written()
     if words == ["--check"]:
-        return check(files)
+        return check(files, count)
     os.makedirs(os.path.join(CRATE, "data"), exist_ok=True)
     for name in stored() - set(files):
         os.remove(os.path.join(CRATE, name))

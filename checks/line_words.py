@@ -14,8 +14,10 @@ def session(seed, count, parts=PARTS):
 
 # Each session is a run without input, and ends with the status 0, also where the module ends in Error.
 SESSIONS = [session(seed, count) for seed in (0, 7, LARGEST_SEED) for count in (0, 1)]
-SESSIONS += [session(0, 100), session(7, 1_000), session(LARGEST_SEED, 40), session(2**32, 9), session(10**19, 9)]
-SESSIONS += [session(7, 5, SHORT_NOISE), session(0, 30, ("image_changed", "digest", "noise")), session(1, 9, ("image", "digest_in_upper_case", "noise_of_1408"))]
+SESSIONS += [session(seed, count) for seed, count in ((0, 100), (2**32, 9), (10**19, 9), (0, 1_000), (7, 1_000), (LARGEST_SEED, 1_000))]
+# The noise ends in the start, or in the reseed that the 1,025th draw asks for.
+SESSIONS += [session(7, 5, SHORT_NOISE), session(7, 4_500, ("image", "digest", "noise_of_1408"))]
+SESSIONS += [session(0, 30, ("image_changed", "digest", "noise")), session(1, 9, ("image", "digest_in_upper_case", "noise"))]
 
 # Words of no form.
 NO_FORMS = [
@@ -50,13 +52,15 @@ REFUSED = [
     (("image", "digest", "no_noise"), FILE_FAILED),
     *((("image", name, "noise"), BAD_DIGEST) for name in FILES if name.startswith(("digest_of_6", "digest_with"))),
 ]
-# No image is looked at where the words are no form.
-REFUSED_SESSIONS = [("session", "00", "0", "image_that_is_not_there", "digest", "noise"), ("session", "0", "100001", "image", "digest_empty", "noise")]
+# No image is looked at where the words are no form, and the largest seed and count are of it.
+NO_IMAGE = ("image_that_is_not_there", "digest", "noise")
+NO_FORMS += [session("00", 0, NO_IMAGE), session(0, 100_001, NO_IMAGE), ("operate", *NO_IMAGE, "more"), session(0, 100_001, ("image", "digest_empty", "noise"))]
+LARGEST = session(LARGEST_SEED, 100_000, NO_IMAGE)
 
 
 def runs():
     """The words, each with the status."""
-    found = [(words, 0) for words in SESSIONS] + [(words, USAGE) for words in NO_FORMS + REFUSED_SESSIONS]
+    found = [(words, 0) for words in SESSIONS] + [(words, USAGE) for words in NO_FORMS] + [(LARGEST, FILE_FAILED)]
     for parts, status in REFUSED:
         found += [(("operate", *parts), status), (("session", "7", "0", *parts), status)]
     found += [(("digest", "image"), 0), (("digest", "image_of_nothing"), 0), (("digest", "image_that_is_not_there"), FILE_FAILED)]
