@@ -1,56 +1,81 @@
-#!/usr/bin/env python3
-"""The summary of a session that is run through the independent model of the module (machine.py).
-
-    python3 checks/machine_sessions.py SEED COUNT [SAMPLES]
-
-runs it over the image 616263 and noise of so many samples: the bytes 00, 01, .., ff, and again from 00. Without a number there are as
-many as a session may take.
+"""An independent model of generated sessions: the commands that a seed and a count make, and the summary of what they are answered.
+It is written from their description and not from the sources, over the model of the module in machine.py.
 """
 import hashlib
-import hmac
-import sys
 
-from machine import IMAGE_KEY, Machine
-from machine_bodies import State, Status
-from session_rows import session
+from machine import Machine
+from machine_bodies import APPROVED, Kind, Service, Status
+from machine_lines import name_of
 
-IMAGE = b"abc"
-DIGEST = hmac.new(IMAGE_KEY, IMAGE, "sha256").digest()
-STATES = {
-    State.OFF: "Off", State.INIT: "Init", State.SELF_TEST: "SelfTest", State.APPROVED: "Approved", State.OFFICER: "Officer",
-    State.USER: "User", State.ENTRY: "Entry", State.ERROR: "Error",
-}
-# One pass of the tests takes 1,408 samples, and after 1,024 draws each time 256 more.
-PASS, DRAWS, RESEED = 1_408, 1_024, 256
-
-
-def samples(count):
-    """So many samples of noise."""
-    return bytes(place % 256 for place in range(count))
+MULTIPLIER, INCREMENT, MODULUS = 6_364_136_223_846_793_005, 1_442_695_040_888_963_407, 2**64
+LENGTHS = 4_096
+LARGEST_SEED, LARGEST_COUNT = MODULUS - 1, 100_000
+CIPHER_SLOT, MAC_SLOT = 0, 2
+SHA256, SHA512 = 1, 3
+TAG, IV = 16, 12
+USES, KEY_LENGTH = 1_000_000, 32
+# The statuses that a command without a number can have.
+STATUSES = [status for status in Status if status != Status.OUT_OF_ORDER]
 
 
-def enough(count):
-    """As many samples as a session of this count may take: its first commands draw four times, and each other one at most once."""
-    return PASS + RESEED * ((count + 4) // DRAWS)
+def quad(number):
+    return number.to_bytes(4, "big")
 
 
-def summary(seed, count, image, digest, noise_bytes):
-    """What is written of the session: a line for the number of its commands, each status, the payload, the last state and the digest."""
-    machine = Machine(image, digest, noise_bytes)
-    replies = [machine.command(number, body) for number, body in session(seed, count)]
-    told = [reply.status for reply in replies]
+def generating(slot, kind):
+    exported = 1
+    return Service.GENERATE, bytes([slot, kind, APPROVED, exported]) + quad(USES) + bytes([KEY_LENGTH])
+
+
+BEGINNING = [
+    (Service.POWER_ON, quad(0)),
+    (Service.REQUEST_TESTS, b""),
+    (Service.TEST_STEP, b""),
+    (Service.TEST_STEP, b""),
+    (Service.TEST_STEP, b""),
+    (Service.SELECT_ROLE, b"\1"),
+    generating(0, Kind.AES),
+    generating(1, Kind.KEK),
+    generating(2, Kind.MAC),
+    generating(3, Kind.KDF),
+    (Service.SELECT_ROLE, b"\2"),
+]
+
+
+def drawn(r):
+    """The command that a number of 32 bits makes."""
+    n = r // 256 % LENGTHS
+    text = bytes((i + r) % 256 for i in range(n))
+    no_aad = quad(0)
+    return (
+        (Service.HASH, bytes([SHA256]) + text),
+        (Service.MAC, bytes([MAC_SLOT, SHA256, 32]) + text),
+        (Service.SEAL, bytes([CIPHER_SLOT, TAG]) + no_aad + text),
+        (Service.RANDOM, quad(n + 1)),
+        (Service.HASH, bytes([SHA512]) + text),
+        (Service.OPEN, bytes([CIPHER_SLOT, TAG, IV]) + no_aad + bytes(IV) + text + bytes(TAG)),
+        (Service.SHOW_STATUS, b""),
+        (Service.SHOW_SLOT, bytes([n % 16])),
+    )[r % 8]
+
+
+def session(seed, count):
+    """The commands: eleven that any session begins with, and then so many."""
+    commands, x = list(BEGINNING), seed
+    for _ in range(count):
+        x = (MULTIPLIER * x + INCREMENT) % MODULUS
+        commands.append(drawn(x >> 32))
+    return commands
+
+
+def summary(seed, count, image, digest, noise) -> bytes:
+    """Twenty lines on the replies to a session; the digest has 32 bytes, the noise is a list of samples."""
+    machine = Machine(image, digest, noise)
+    replies = [machine.command(service, body) for service, body in session(seed, count)]
+    statuses = [reply.status for reply in replies]
     lines = [f"commands {len(replies)}"]
-    lines += [f"status {status:d} {told.count(status)}" for status in Status if status != Status.OUT_OF_ORDER]
+    lines += [f"status {status:d} {statuses.count(status)}" for status in STATUSES]
     lines.append(f"payload {sum(len(reply.payload) for reply in replies)}")
-    lines.append(f"state {STATES[machine.state]}")
-    lines.append("sha256 " + hashlib.sha256(b"".join(reply.spelling() for reply in replies)).hexdigest())
-    return "".join(line + "\n" for line in lines).encode()
-
-
-def main(seed, count, *noise):
-    seed, count = int(seed), int(count)
-    sys.stdout.buffer.write(summary(seed, count, IMAGE, DIGEST, samples(int(noise[0]) if noise else enough(count))))
-
-
-if __name__ == "__main__":
-    main(*sys.argv[1:])
+    lines.append(f"state {name_of(machine.state)}")
+    lines.append(f"sha256 {hashlib.sha256(b''.join(reply.spelling() for reply in replies)).hexdigest()}")
+    return "".join(f"{line}\n" for line in lines).encode()

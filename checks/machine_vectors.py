@@ -1,237 +1,200 @@
-#!/usr/bin/env python3
-"""A model of reports of vector lines: what the lines of some bytes are found to be, and the report that is written of them.
+"""An independent model of vector lines: what each passes by, and the report. It is written from their description and not from the
+sources, over hashlib, hmac and the package `cryptography` (see machine_functions.py).
 
-It is written from the description of the forms (docs/INTERFACE.md, docs/DECISIONS.md) and the standards, over hashlib, hmac,
-Python's `cryptography` and machine_functions.py.
-
-    python3 checks/machine_vectors.py FILE     writes the report of a file, and ends with its status
+    python3 checks/machine_vectors.py     compares CMAC's key derivation with what `cryptography` and openssl have of it
 """
-import re
-import sys
+import subprocess
 
-sys.dont_write_bytecode = True
-
-from cryptography.hazmat.primitives.ciphers import algorithms
+from cryptography.hazmat.primitives.ciphers.algorithms import AES
 from cryptography.hazmat.primitives.cmac import CMAC
 
-from machine_functions import derive, gcm_open, gcm_seal, generate, hash_of, hmac, instantiate, unwrap, wrap
+import machine_functions as functions
+from machine_lines import BAD_LINE, BadLine, bad_line, is_comment, lines_of, need, some_bytes
 
-# The statuses of a program that reports.
-ALL_PASSED, SOME_FAILED, BAD_LINE = 0, 1, 10
-
-LARGEST_LINE = 131_400
-LARGEST_PART = 65_664
-LARGEST_OUTPUT = 65_536
-
-
-class BadLine(Exception):
-    """The line is no vector's."""
+SOME_FAILED = 1
+CMAC_BLOCK = 16
+# What stands for a refusal in place of the expected bytes.
+REFUSAL = None
 
 
-def demand(holds):
-    if not holds:
-        raise BadLine
+# Readers of one word.
 
 
-def bytes_of(word):
-    if word == b"-":
-        return b""
-    demand(re.fullmatch(rb"(?:[0-9a-fA-F]{2})+", word))
-    return bytes.fromhex(word.decode("ascii"))
+def sized(lengths):
+    def reader(word):
+        read = some_bytes(word)
+        need(len(read) in lengths)
+        return read
+
+    return reader
 
 
-def answer_of(word):
-    return None if word == b"fail" else bytes_of(word)
+def bytes_or_fail(word):
+    return REFUSAL if word == b"fail" else some_bytes(word)
+
+
+cipher_key = sized((16, 24, 32))
+iv = sized(range(1, 256))
+tag = sized(range(12, 17))
+message = sized(range(65_665))
+input_part = sized(range(256))
+derived_bytes = sized(range(1, 65_537))
+key_to_wrap = sized(range(16, 65, 8))
+key_to_pad = sized(range(1, 65))
+wrapped_key = sized(range(24, 73, 8))
+padded_key = sized(range(16, 73, 8))
+
+
+# What passes.
+
+
+def hashes_to(alg):
+    return lambda text, out: functions.hash_of(alg, text) == out
+
+
+def macs_to(alg):
+    return lambda key, text, out: functions.hmac(alg, key, text) == out
+
+
+def seals_to(key, iv, aad, text, out, tag):
+    ciphertext, whole = functions.gcm_seal(key, iv, aad, text)
+    return ciphertext == out and whole[: len(tag)] == tag
+
+
+def opens_to(key, iv, aad, text, tag, out):
+    return functions.gcm_open(key, iv, aad, text, tag) == out
+
+
+def wraps_to(pad):
+    return lambda key, text, out: functions.wrap(pad, key, text) == out
+
+
+def unwraps_to(pad):
+    return lambda key, text, out: functions.unwrap(pad, key, text) == out
+
+
+def derives(key, label, context, out):
+    return functions.derive(key, label, context, len(out)) == out
+
+
+def generates(entropy, nonce, personal, out):
+    generator = functions.instantiate(entropy, nonce, personal)
+    return functions.generate(b"", generator, len(out))[0] == out
 
 
 def cmac(key, text):
-    mac = CMAC(algorithms.AES(key))
+    mac = CMAC(AES(key))
     mac.update(text)
     return mac.finalize()
 
 
-def number(value):
-    return value.to_bytes(4, "big")
+# Key derivation over CMAC (SP 800-108): the blocks of each mode.
 
 
-def blocks_of(mode, key, fixed):
-    """The blocks of SP 800-108 Rev. 1, section 4, with CMAC, a counter of 32 bits and an empty K(0)."""
-    chained, block, count = fixed, b"", 0
-    while True:
-        count += 1
-        if mode == "counter":
-            block = cmac(key, number(count) + fixed)
-        elif mode == "feedback":
-            block = cmac(key, block + number(count) + fixed)
-        else:
-            chained = cmac(key, chained)
-            block = cmac(key, chained + number(count) + fixed)
-        yield block
+def counted(i):
+    return i.to_bytes(4, "big")
 
 
-def cmac_derived(mode, key, label, context, length):
-    derived, blocks = b"", blocks_of(mode, key, label + b"\0" + context + number(8 * length))
-    while len(derived) < length:
-        derived += next(blocks)
-    return derived[:length]
+def counter_mode(key, fixed, count):
+    return [cmac(key, counted(i) + fixed) for i in range(1, count + 1)]
 
 
-def is_key(key):
-    return len(key) in (16, 24, 32)
+def feedback_mode(key, fixed, count):
+    blocks, last = [], b""
+    for i in range(1, count + 1):
+        last = cmac(key, last + counted(i) + fixed)
+        blocks.append(last)
+    return blocks
 
 
-def demand_sealable(key, iv, aad, text, tag):
-    demand(is_key(key) and 1 <= len(iv) <= 255 and 12 <= len(tag) <= 16)
-    demand(len(aad) <= LARGEST_PART and len(text) <= LARGEST_PART)
+def pipeline_mode(key, fixed, count):
+    blocks, chained = [], fixed
+    for i in range(1, count + 1):
+        chained = cmac(key, chained)
+        blocks.append(cmac(key, chained + counted(i) + fixed))
+    return blocks
 
 
-def demand_derivable(label, context, out):
-    demand(len(label) <= 255 and len(context) <= 255 and 1 <= len(out) <= LARGEST_OUTPUT)
+def derived_by(mode, key, label, context, length):
+    fixed = label + b"\0" + context + (8 * length).to_bytes(4, "big")
+    return b"".join(mode(key, fixed, (length + CMAC_BLOCK - 1) // CMAC_BLOCK))[:length]
 
 
-# Whether a vector of each kind passes, by its words.
-def digest(alg):
-    def passes(text, out):
-        return hash_of(alg, bytes_of(text)) == bytes_of(out)
-
-    return passes
+def derives_by(mode):
+    return lambda key, label, context, out: derived_by(mode, key, label, context, len(out)) == out
 
 
-def mac(alg):
-    def passes(key, text, out):
-        return hmac(alg, bytes_of(key), bytes_of(text)) == bytes_of(out)
+CMAC_DERIVATION = (cipher_key, input_part, input_part, derived_bytes)
 
-    return passes
-
-
-def seal(*words):
-    key, iv, aad, text, out, tag = map(bytes_of, words)
-    demand_sealable(key, iv, aad, text, tag)
-    ciphertext, whole = gcm_seal(key, iv, aad, text)
-    return ciphertext == out and whole[: len(tag)] == tag
-
-
-def opened(*words):
-    key, iv, aad, text, tag = map(bytes_of, words[:5])
-    out = answer_of(words[5])
-    demand_sealable(key, iv, aad, text, tag)
-    return gcm_open(key, iv, aad, text, tag) == out
-
-
-def wrapping(pad):
-    def passes(*words):
-        key, text, out = map(bytes_of, words)
-        demand(is_key(key))
-        demand(1 <= len(text) <= 64 if pad else len(text) in range(16, 65, 8))
-        return wrap(pad, key, text) == out
-
-    return passes
-
-
-def unwrapping(pad):
-    def passes(key, text, out):
-        key, text, out = bytes_of(key), bytes_of(text), answer_of(out)
-        demand(is_key(key) and len(text) in range(16 if pad else 24, 73, 8))
-        return unwrap(pad, key, text) == out
-
-    return passes
-
-
-def derivation(*words):
-    key, label, context, out = map(bytes_of, words)
-    demand_derivable(label, context, out)
-    return derive(key, label, context, len(out)) == out
-
-
-def generation(*words):
-    entropy, nonce, personal, out = map(bytes_of, words)
-    demand(1 <= len(out) <= LARGEST_OUTPUT)
-    return generate(b"", instantiate(entropy, nonce, personal), len(out))[0] == out
-
-
-def cmac_line(*words):
-    key, text, out = map(bytes_of, words)
-    demand(is_key(key))
-    return cmac(key, text) == out
-
-
-def cmac_derivation(mode):
-    def passes(*words):
-        key, label, context, out = map(bytes_of, words)
-        demand(is_key(key))
-        demand_derivable(label, context, out)
-        return cmac_derived(mode, key, label, context, len(out)) == out
-
-    return passes
-
-
-# How many words stand behind a kind's name, and its test.
-KINDS = {
-    b"sha256": (2, digest(1)),
-    b"sha384": (2, digest(2)),
-    b"sha512": (2, digest(3)),
-    b"hmac256": (3, mac(1)),
-    b"hmac384": (3, mac(2)),
-    b"hmac512": (3, mac(3)),
-    b"seal": (6, seal),
-    b"open": (6, opened),
-    b"wrap": (3, wrapping(False)),
-    b"wrappad": (3, wrapping(True)),
-    b"unwrap": (3, unwrapping(False)),
-    b"unwrappad": (3, unwrapping(True)),
-    b"derive": (4, derivation),
-    b"drbg": (4, generation),
-    b"cmac": (3, cmac_line),
-    b"kbcounter": (4, cmac_derivation("counter")),
-    b"kbfeedback": (4, cmac_derivation("feedback")),
-    b"kbpipeline": (4, cmac_derivation("pipeline")),
+# For each first word the readers of the words behind it, and whether what they read passes.
+VECTORS = {
+    b"sha256": ((some_bytes, some_bytes), hashes_to(1)),
+    b"sha384": ((some_bytes, some_bytes), hashes_to(2)),
+    b"sha512": ((some_bytes, some_bytes), hashes_to(3)),
+    b"hmac256": ((some_bytes, some_bytes, some_bytes), macs_to(1)),
+    b"hmac384": ((some_bytes, some_bytes, some_bytes), macs_to(2)),
+    b"hmac512": ((some_bytes, some_bytes, some_bytes), macs_to(3)),
+    b"seal": ((cipher_key, iv, message, message, some_bytes, tag), seals_to),
+    b"open": ((cipher_key, iv, message, message, tag, bytes_or_fail), opens_to),
+    b"wrap": ((cipher_key, key_to_wrap, some_bytes), wraps_to(False)),
+    b"unwrap": ((cipher_key, wrapped_key, bytes_or_fail), unwraps_to(False)),
+    b"wrappad": ((cipher_key, key_to_pad, some_bytes), wraps_to(True)),
+    b"unwrappad": ((cipher_key, padded_key, bytes_or_fail), unwraps_to(True)),
+    b"derive": ((some_bytes, input_part, input_part, derived_bytes), derives),
+    b"drbg": ((some_bytes, some_bytes, some_bytes, derived_bytes), generates),
+    b"cmac": ((cipher_key, some_bytes, some_bytes), lambda key, text, out: cmac(key, text) == out),
+    b"kbcounter": (CMAC_DERIVATION, derives_by(counter_mode)),
+    b"kbfeedback": (CMAC_DERIVATION, derives_by(feedback_mode)),
+    b"kbpipeline": (CMAC_DERIVATION, derives_by(pipeline_mode)),
 }
 
 
 def passes(line):
-    """Whether a vector's line passes; BadLine where it is none."""
-    demand(len(line) <= LARGEST_LINE)
-    name, *words = line.split(b" ")
-    demand(name in KINDS)
-    count, test = KINDS[name]
-    demand(len(words) == count)
-    return test(*words)
+    """Whether a line passes; none for a comment."""
+    if is_comment(line):
+        return None
+    first, *words = line.split(b" ")
+    need(first in VECTORS)
+    readers, holds = VECTORS[first]
+    need(len(words) == len(readers))
+    return holds(*[reader(word) for reader, word in zip(readers, words)])
 
 
-def is_comment(line):
-    return len(line) <= LARGEST_LINE and (not line or line.startswith(b"#"))
-
-
-def lines_of(taken, ended):
-    """The lines of the bytes taken. Where the source may go on behind them, a rest without LF is a line only if it is too long."""
-    *lines, rest = taken.split(b"\n")
-    if len(rest) > LARGEST_LINE or ended and rest:
-        lines.append(rest)
-    return lines
-
-
-def report(lines_bytes, ended=True):
-    """The status and the report of these bytes, behind which the source has ended, or a read failed."""
-    text, passed, checked = b"", 0, 0
-    for place, line in enumerate(lines_of(lines_bytes, ended), 1):
-        if is_comment(line):
-            continue
+def report(stream):
+    """The status and the report of the lines of an input."""
+    written, passed, checked = b"", 0, 0
+    for number, line in enumerate(lines_of(stream), 1):
         try:
-            good = passes(line)
+            result = passes(line)
         except BadLine:
-            return BAD_LINE, text + b"bad line %d\n" % place
+            return BAD_LINE, written + bad_line(number)
+        if result is None:
+            continue
         checked += 1
-        passed += good
-        text += b"%d %s\n" % (place, b"pass" if good else b"fail")
-    return (ALL_PASSED if passed == checked else SOME_FAILED), text + b"%d of %d\n" % (passed, checked)
+        passed += result
+        written += f"{number} {'pass' if result else 'fail'}\n".encode()
+    return SOME_FAILED if passed < checked else 0, written + f"{passed} of {checked}\n".encode()
 
 
-def main():
-    with open(sys.argv[1], "rb") as file:
-        status, text = report(file.read())
-    sys.stdout.buffer.write(text)
-    return status
+def openssl_feedback(key, label, context, length):
+    """What `openssl kdf` derives."""
+    options = ["mac:CMAC", "cipher:AES-128-CBC", "mode:FEEDBACK", f"hexkey:{key.hex()}", f"hexsalt:{label.hex()}", f"hexinfo:{context.hex()}"]
+    words = [word for option in options for word in ("-kdfopt", option)]
+    asked = ["openssl", "kdf", "-binary", "-keylen", str(length), *words, "KBKDF"]
+    return subprocess.run(asked, check=True, stdout=subprocess.PIPE).stdout
+
+
+def compare():
+    from cryptography.hazmat.primitives.kdf.kbkdf import KBKDFCMAC, CounterLocation, Mode
+
+    functions.compare()
+    key, label, context = bytes(range(16)), b"label", bytes(range(64))
+    for length in (1, 15, 16, 17, 255, 4_096):
+        theirs = KBKDFCMAC(AES, Mode.CounterMode, length, 4, 4, CounterLocation.BeforeFixed, label, context, None)
+        assert derived_by(counter_mode, key, label, context, length) == theirs.derive(key)
+        assert derived_by(feedback_mode, key, label, context, length) == openssl_feedback(key, label, context, length)
+    print("rows: checks/machine_vectors.py: derivation over CMAC answers as cryptography and openssl do")
 
 
 if __name__ == "__main__":
-    sys.exit(main())
+    compare()
