@@ -18,7 +18,7 @@ sys.dont_write_bytecode = True
 
 import machine_functions as functions
 from machine import IMAGE_KEY, Machine
-from machine_bodies import LARGEST_BODY, BadBody, Service, State, Status, read_request
+from machine_bodies import LARGEST_BODY, BadBody, Service, read_request
 
 TOP = os.path.join(os.path.dirname(os.path.abspath(__file__)), "..")
 MANUAL, README = os.path.join(TOP, "docs", "INTERFACE.md"), os.path.join(TOP, "README.md")
