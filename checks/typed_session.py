@@ -100,6 +100,15 @@ class Terminal:
         self.shown += piece
         return piece != b""
 
+    def is_deserted(self):
+        """Whether no process has the terminal any more, which is then no longer read."""
+        if not select.select([self.ours], [], [], SECONDS)[0]:
+            return False
+        try:
+            return os.read(self.ours, 1) == b""
+        except OSError:
+            return True
+
     def line(self):
         """The next line on the screen."""
         until = time.monotonic() + SECONDS
@@ -268,8 +277,8 @@ def longest_typed_line():
         terminal.ends(0)
 
 
-def tried(keys, status, ended):
-    """A module of `try`, of which nothing is left however it ends."""
+def tried(end, status, ended=()):
+    """A module of `try`, of which nothing is left however it ends: neither its folder nor the program."""
     tried_in = in_room("tried")
     os.makedirs(tried_in, exist_ok=True)
     with Terminal([LAUNCHER, "try"], stderr=subprocess.STDOUT, env={**os.environ, "TMPDIR": tried_in}) as terminal:
@@ -278,23 +287,28 @@ def tried(keys, status, ended):
         expect("an empty line", terminal.line(), "")
         terminal.type("poweron 0", POWERED_ON)
         expect("folders while it runs", len(os.listdir(tried_in)), 1)
-        terminal.press(keys)
+        end(terminal)
         for wanted in ended:
             expect("a line at the end", terminal.line()[: len(wanted)], wanted)
         terminal.ends(status)
+        expect("whether the program is gone", terminal.is_deserted(), True)
     expect("folders that are left", os.listdir(tried_in), [])
 
 
 def tried_to_the_end():
-    tried(END_OF_INPUT, 0, [])
+    tried(lambda terminal: terminal.press(END_OF_INPUT), 0)
 
 
 def tried_to_a_bad_line():
-    tried(b"frob\n", 10, ["frob", "bad line 2", "bad line", "warlinden: that line is no command"])
+    tried(lambda terminal: terminal.press(b"frob\n"), 10, ["frob", "bad line 2", "bad line", "warlinden: that line is no command"])
 
 
 def tried_and_interrupted():
-    tried(INTERRUPT, -signal.SIGINT, [])
+    tried(lambda terminal: terminal.press(INTERRUPT), -signal.SIGINT)
+
+
+def tried_and_terminated():
+    tried(lambda terminal: terminal.ran.terminate(), -signal.SIGTERM)
 
 
 CASES = [
@@ -313,6 +327,7 @@ CASES = [
     tried_to_the_end,
     tried_to_a_bad_line,
     tried_and_interrupted,
+    tried_and_terminated,
 ]
 
 
