@@ -105,6 +105,29 @@ input=told ends 0 'Ok Init' 'warlinden: a module of your own' "${trying[@]}"
 [ "$(grep -c '^Ok ' out)" -eq "$(wc -l <told)" ] || fail "of the lines that try tells one is answered '$(grep -v '^Ok ' out | head -n 1)'"
 ends 125 - 'warlinden: no temporary folder' env "TMPDIR=$room/none" "$room/link" try
 [ -z "$(ls tried)" ] || fail "try left $(ls tried) behind"
+
+# A signal that ends `try` ends its module: nobody reads what is typed then.
+mkfifo keys || exit 1
+"${trying[@]}" <keys >out 2>err &
+launched=$!
+exec 3>keys
+echo status >&3
+for ((tenth = 0; tenth < 300; tenth++)); do
+    [ -s out ] && break
+    sleep 0.1
+done
+[ "$(cat out)" = 'Ok Off 0 0000 000000000000000000000000 -' ] || fail "try answers '$(cat out)'"
+[ -n "$(ls tried)" ] || fail 'try has no folder while it runs'
+kill -TERM "$launched"
+wait "$launched"
+[ $? -eq 143 ] || fail 'try does not end by SIGTERM'
+for ((tenth = 0; tenth < 100; tenth++)); do
+    (trap '' PIPE && echo status >&3) 2>/dev/null || break
+    sleep 0.1
+done
+[ "$tenth" -lt 100 ] || fail 'the module goes on after try was ended'
+exec 3>&-
+[ -z "$(ls tried)" ] || fail "try left $(ls tried) behind after a signal"
 if python3 -c 'import sys; sys.exit(sys.version_info < (3, 8))' 2>/dev/null; then
     ends 0 'The image has' - "$room/link" demo
     ends 125 - 'client: .*write' bash -c 'exec "$0" demo >/dev/full' "$room/link"

@@ -100,15 +100,6 @@ class Terminal:
         self.shown += piece
         return piece != b""
 
-    def is_deserted(self):
-        """Whether no process has the terminal any more, which is then no longer read."""
-        if not select.select([self.ours], [], [], SECONDS)[0]:
-            return False
-        try:
-            return os.read(self.ours, 1) == b""
-        except OSError:
-            return True
-
     def line(self):
         """The next line on the screen."""
         until = time.monotonic() + SECONDS
@@ -278,7 +269,7 @@ def longest_typed_line():
 
 
 def tried(end, status, ended=()):
-    """A module of `try`, of which nothing is left however it ends: neither its folder nor the program."""
+    """A module of `try`, whose folder is gone however it ends."""
     tried_in = in_room("tried")
     os.makedirs(tried_in, exist_ok=True)
     with Terminal([LAUNCHER, "try"], stderr=subprocess.STDOUT, env={**os.environ, "TMPDIR": tried_in}) as terminal:
@@ -291,7 +282,6 @@ def tried(end, status, ended=()):
         for wanted in ended:
             expect("a line at the end", terminal.line()[: len(wanted)], wanted)
         terminal.ends(status)
-        expect("whether the program is gone", terminal.is_deserted(), True)
     expect("folders that are left", os.listdir(tried_in), [])
 
 
