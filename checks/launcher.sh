@@ -11,11 +11,11 @@ fail() {
     exit 1
 }
 
-# ends STATUS OUT ERR WORDS..: the status, and what the two outputs begin with; `-` is none
+# ends STATUS OUT ERR WORDS..: the status, and what the two outputs begin with; `-` is none. The file $input is read, if it is named.
 ends() {
     local wanted=$1 out=$2 err=$3 status
     shift 3
-    "$@" </dev/null >"$room/out" 2>"$room/err"
+    "$@" <"${input:-/dev/null}" >"$room/out" 2>"$room/err"
     status=$?
     [ "$status" -eq "$wanted" ] || fail "$* ended with $status in place of $wanted: $(tail -n 1 "$room/err")"
     begins "$room/out" "$out" || fail "$* wrote '$(head -n 1 "$room/out")' to standard output"
@@ -38,7 +38,8 @@ for tool in bash sh env dirname readlink cat awk find grep; do
 done
 copy=$room/copy/warlinden
 bare=(env "PATH=$room/bin")
-for words in '' frobnicate 'demo demo' 'build now' Serve serve 'serve image digest' 'serve a b c d' digest 'digest a b'; do
+for words in '' frobnicate 'demo demo' 'build now' Serve serve 'serve image digest' 'serve a b c d' digest 'digest a b' \
+    Try 'try it' operate 'operate image digest' 'operate a b c d' session 'session 7 0 image digest' 'session 7 0 a b c d' 'vectors now'; do
     # shellcheck disable=SC2086
     ends 2 - 'usage: warlinden' "${bare[@]}" "$copy" $words
 done
@@ -46,7 +47,11 @@ for word in help --help -h; do
     ends 0 'usage: warlinden' - "${bare[@]}" "$copy" "$word"
 done
 ends 127 - 'warlinden: .*no rt' "${bare[@]}" "$copy" serve image digest noise
+ends 127 - 'warlinden: .*no rt' "${bare[@]}" "$copy" operate image digest noise
+ends 127 - 'warlinden: .*no rt' "${bare[@]}" "$copy" session 7 0 image digest noise
+ends 127 - 'warlinden: .*no rt' "${bare[@]}" "$copy" vectors
 ends 127 - 'warlinden: .*no rt' "${bare[@]}" "$copy" digest image
+ends 127 - 'warlinden: .*no rt' "${bare[@]}" "$copy" try
 ends 127 - 'warlinden: .*no rt' "${bare[@]}" "$copy" build
 ends 127 - 'warlinden: .*python3' "${bare[@]}" "$copy" demo
 if [ -e /dev/full ]; then
@@ -68,6 +73,61 @@ ends 0 - - "$room/link" serve image digest /dev/null
 ends 8 - 'file failed' "$room/link" serve image digest none
 ends 11 - 'bad digest file' "$room/link" serve image image /dev/null
 ends 2 - 'usage: warlinden' "$room/link" serve now
+
+# Lines, sessions and vectors.
+printf '# a note\npoweron 0\nversion' >lines
+printf 'status\nfrob\nstatus\n' >bad_line
+printf 'sha256 616263 %s\n' ba7816bf8f01cfea414140de5dae2223b00361a396177a9cb410ff61f20015ad >vector
+printf 'sha256 616263 00\n' >other_vector
+input=lines ends 0 'Ok Init 0 0000 000000000000000000000000 -$' - "$room/link" operate image digest /dev/null
+[ "$(tail -n 1 out)" = 'Ok Init 0 0000 53594d4d4f442030312e3030 -' ] || fail "operate wrote '$(tail -n 1 out)' to its last line"
+input=bad_line ends 10 'Ok Off 0 0000 000000000000000000000000 -$' 'bad line$' "$room/link" operate image digest /dev/null
+[ "$(tail -n 1 out)" = 'bad line 2' ] || fail "operate wrote '$(tail -n 1 out)' at a bad line"
+ends 11 - 'bad digest file' "$room/link" operate image image /dev/null
+ends 0 'commands 11$' - "$room/link" session 7 0 image digest /dev/zero
+[ "$(tail -n 2 out | head -n 1)" = 'state Error' ] || fail 'a session over noise without end that is stuck did not end in Error'
+ends 2 - 'usage: serve, operate, digest, session or vectors$' "$room/link" session 07 0 image digest /dev/zero
+input=vector ends 0 '1 pass$' - "$room/link" vectors
+input=other_vector ends 1 '1 fail$' 'a vector failed$' "$room/link" vectors
+input=bad_line ends 10 'bad line 1$' 'bad line$' "$room/link" vectors
+
+# A module to try: its folder is gone in the end, however it ends.
+mkdir tried || exit 1
+trying=(env "TMPDIR=$room/tried" "$room/link" try)
+ends 0 - 'warlinden: a module of your own' "${trying[@]}"
+input=lines ends 0 'Ok Init 0 0000 000000000000000000000000 -$' 'warlinden: a module of your own' "${trying[@]}"
+input=bad_line ends 10 'Ok Off 0 0000 000000000000000000000000 -$' 'warlinden: a module of your own' "${trying[@]}"
+tail -n 1 err | grep -q '^warlinden: .*no command' || fail "try says '$(tail -n 1 err)' of a bad line"
+# each line that it tells, as it stands before its explanation, is done
+sed -n '/^  [a-z]/ { s/^  //; s/   .*//; p }' err >told
+[ "$(wc -l <told)" -ge 10 ] || fail 'try tells too few lines to begin with'
+input=told ends 0 'Ok Init' 'warlinden: a module of your own' "${trying[@]}"
+[ "$(grep -c '^Ok ' out)" -eq "$(wc -l <told)" ] || fail "of the lines that try tells one is answered '$(grep -v '^Ok ' out | head -n 1)'"
+ends 125 - 'warlinden: no temporary folder' env "TMPDIR=$room/none" "$room/link" try
+[ -z "$(ls tried)" ] || fail "try left $(ls tried) behind"
+
+# A signal that ends `try` ends its module: nobody reads what is typed then.
+mkfifo keys || exit 1
+"${trying[@]}" <keys >out 2>err &
+launched=$!
+exec 3>keys
+echo status >&3
+for ((tenth = 0; tenth < 300; tenth++)); do
+    [ -s out ] && break
+    sleep 0.1
+done
+[ "$(cat out)" = 'Ok Off 0 0000 000000000000000000000000 -' ] || fail "try answers '$(cat out)'"
+[ -n "$(ls tried)" ] || fail 'try has no folder while it runs'
+kill -TERM "$launched"
+wait "$launched"
+[ $? -eq 143 ] || fail 'try does not end by SIGTERM'
+for ((tenth = 0; tenth < 100; tenth++)); do
+    (trap '' PIPE && echo status >&3) 2>/dev/null || break
+    sleep 0.1
+done
+[ "$tenth" -lt 100 ] || fail 'the module goes on after try was ended'
+exec 3>&-
+[ -z "$(ls tried)" ] || fail "try left $(ls tried) behind after a signal"
 if python3 -c 'import sys; sys.exit(sys.version_info < (3, 8))' 2>/dev/null; then
     ends 0 'The image has' - "$room/link" demo
     ends 125 - 'client: .*write' bash -c 'exec "$0" demo >/dev/full' "$room/link"

@@ -10,8 +10,9 @@ fi
 python3 checks/stored_run.py --check || exit 1
 if python3 -c 'import cryptography' 2>/dev/null; then
     python3 checks/manual_dialogue.py --check || exit 1
+    python3 checks/manual_lines.py --check || exit 1
     python3 checks/dialogue.py --check || exit 1
 else
-    echo "rows: manual_dialogue.py and dialogue.py are skipped, since Python's cryptography isn't here"
+    echo "rows: manual_dialogue.py, manual_lines.py and dialogue.py are skipped, since Python's cryptography isn't here"
 fi
 exec python3 checks/rows.py

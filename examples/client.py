@@ -13,21 +13,19 @@ As a library:
 
 As a command, where PROGRAM is ./warlinden or the program that it builds:
 
-    client.py demo [--numbered] [--at-once] -- PROGRAM           plays a worked dialogue over files of its own, and shows it
     client.py talk [--numbered] -- PROGRAM serve IMAGE DIGEST NOISE
                                                                  sends the commands of its lines, and shows each reply
     client.py talk [--numbered] --socket PATH                    the same over a socket
     client.py decode                                             shows the replies whose bytes it is given
 
-A line of `talk` is the name of a service, or its number in hex, and its body in hex, as `Hash 01616263`.
+A line of `talk` is the name of a service, or its number in hex, and its body in hex, as `Hash 01616263`. demo.py plays worked
+dialogues with this client.
 """
 import enum
 import hmac
-import os
 import socket
 import subprocess
 import sys
-import tempfile
 
 LARGEST_BODY = 65_600
 LARGEST_PAYLOAD = 65_664
@@ -127,6 +125,7 @@ class Domain(enum.IntEnum):
 
 EXIT_STATUSES = {
     0: "the input ended after a whole command",
+    1: "a test vector failed",
     2: "the words were none that the program knows",
     3: "bad frame: the input showed bytes that no command has",
     4: "truncated frame: the input ended inside a command",
@@ -135,6 +134,7 @@ EXIT_STATUSES = {
     7: "out of memory",
     8: "a file could not be read",
     9: "the image has more than 16,777,216 bytes",
+    10: "a line is no command, or no test vector",
     11: "the digest file is not 64 hex digits and at most one line feed",
     12: "stream too long: 2^40 bytes were read",
     125: "the launcher could not write",
@@ -499,220 +499,10 @@ class SocketModule(Client):
         self.end()
 
 
-# The dialogues of the demo: what is done, the service and the body, and of an expected refusal its status and reason. A body that
-# needs what a service gave before is a function of the payloads by their services.
-HEADER = entry_header(3, Kind.MacKey, Domain.Other, False, 100, 4)
-QUESTION = b"what do ya want for nothing?"
-JEFE_MAC = bytes.fromhex("5bdcc146bf60754e")
-FEW, UNASKED = Status.BadLength, Status.NotInState
-DIALOGUE = [
-    ("the officer's role, before the module has power", Service.SelectRole, b"\x01", UNASKED, "roles come after the tests"),
-    ("power on; tests are due after every third use", Service.PowerOn, b"\0\0\0\3"),
-    ("what everyone may see", Service.ShowStatus, b""),
-    ("the self-tests, please", Service.RequestTests, b""),
-    ("first of three steps: HMAC-SHA-256", Service.TestStep, b""),
-    ("second: the image", Service.TestStep, b""),
-    ("third: the generator, and its seed from 1,408 bytes of noise", Service.TestStep, b""),
-    ("the officer's role", Service.SelectRole, b"\x01"),
-    ("name and version", Service.ShowVersion, b""),
-    ("a MAC key of four bytes for slot 3, with 100 uses", Service.EntryBegin, HEADER),
-    ("five bytes of it", Service.EntryBytes, b"Jefe\0", FEW, "the key has four bytes, and nothing of the five is kept"),
-    ("four bytes of it", Service.EntryBytes, b"Jefe"),
-    ("their check value", Service.EntryCommit, check_value(HEADER, b"Jefe")),
-    ("what slot 3 holds, but for its bytes", Service.ShowSlot, b"\3"),
-    ("the user's role", Service.SelectRole, b"\x02"),
-    ("SHA-256 of `abc`", Service.Hash, b"\1abc"),
-    ("eight bytes of HMAC-SHA-256 under slot 3", Service.Mac, b"\3\1\x08" + QUESTION),
-    ("the same eight bytes, to be verified; the third use, so tests are due", Service.MacVerify, b"\3\1\x08" + JEFE_MAC + QUESTION),
-]
-NUMBERED = [
-    ("a numbered command, the first", Service.ShowStatus, b""),
-    ("the same number again", Service.ShowStatus, b"", Status.OutOfOrder, "it was taken already"),
-]
-LAST = ("all slots are emptied", Service.Reset, b"")
-TEXT, AAD = b"attack at dawn", b"to: all"
-
-
-def opening(slot, sealed, turned=0):
-    """Opens what Seal gave, with so many of the last tag's bits turned."""
-    iv, ciphertext, tag = parts_of_sealed(sealed)
-    return open_body(slot, iv, ciphertext, tag[:-1] + bytes([tag[-1] ^ turned]), AAD)
-
-
-# A run of its own, in which keys are made, used, and zeroised with all that came of them.
-KEYS = [
-    ("power on; tests are never due again by themselves", Service.PowerOn, b"\0\0\0\0"),
-    ("the self-tests, please", Service.RequestTests, b""),
-    ("first of three steps: HMAC-SHA-256", Service.TestStep, b""),
-    ("second: the image", Service.TestStep, b""),
-    ("third: the generator, and its seed", Service.TestStep, b""),
-    ("the officer's role", Service.SelectRole, b"\x01"),
-    ("a wrapping key of 32 random bytes in slot 0", Service.Generate, entry_header(0, Kind.WrappingKey, Domain.Approved, False, 9, 32)),
-    ("an AES key likewise in slot 1, for export", Service.Generate, entry_header(1, Kind.AesKey, Domain.Approved, True, 9, 32)),
-    ("the key of slot 1 leaves, wrapped under slot 0", Service.Wrap, b"\0\1"),
-    ("and comes back into slot 2", Service.Unwrap, lambda given: unwrap_body(0, 2, Kind.AesKey, given[Service.Wrap], False, 9)),
-    ("slot 2 is not for export", Service.Wrap, b"\0\2", Status.NotExportable, "what was unwrapped without the flag stays here"),
-    ("a derivation key in slot 3", Service.Generate, entry_header(3, Kind.DerivationKey, Domain.Approved, False, 9, 32)),
-    ("a MAC key in slot 4, derived from slot 3", Service.Derive, derive_body(3, 4, Kind.MacKey, 32, b"demo", b"", False, 9)),
-    ("16 random bytes", Service.Random, b"\0\0\0\x10"),
-    ("fresh noise for the generator, 256 bytes", Service.Reseed, b""),
-    ("the user's role", Service.SelectRole, b"\x02"),
-    ("a text, sealed under slot 1", Service.Seal, seal_body(1, TEXT, AAD, TAG_LENGTH)),
-    ("opened under slot 2, which has the same key", Service.Open, lambda given: opening(2, given[Service.Seal])),
-    ("the same with one bit of the tag turned", Service.Open, lambda given: opening(2, given[Service.Seal], 1), Status.AuthFailed,
-     "no byte of the text is given"),
-    ("eight bytes of HMAC-SHA-256 under the derived key", Service.Mac, b"\4\1\x08" + TEXT),
-    ("the officer's role", Service.SelectRole, b"\x01"),
-    ("slot 0 and all that was unwrapped under it", Service.ZeroiseTree, b"\0"),
-    ("slot 2, which came of slot 0", Service.ShowSlot, b"\2"),
-    ("slot 1, which didn't", Service.ShowSlot, b"\1"),
-    ("slot 3 and all that was derived from it", Service.ZeroiseTree, b"\3"),
-    ("slot 4, which came of slot 3", Service.ShowSlot, b"\4"),
-]
-# The same module over an image of which a byte was changed.
-CHANGED = [
-    ("power on", Service.PowerOn, b"\0\0\0\0"),
-    ("the self-tests, please", Service.RequestTests, b""),
-    ("first step: HMAC-SHA-256", Service.TestStep, b""),
-    ("second: the image", Service.TestStep, b"", Status.TestFailed, "it is not the image that the digest was made of"),
-    ("the user's role", Service.SelectRole, b"\x02", UNASKED, "after a failed test there is only ShowStatus, ShowVersion and Reset"),
-    ("what everyone may see", Service.ShowStatus, b""),
-]
-
-
-def numbered_as(lines, sequence=None):
-    """Lines of a dialogue, each with the number of its command."""
-    return [(line, sequence) for line in lines]
-
-
-def first_dialogue(with_numbers):
-    return numbered_as(DIALOGUE) + (numbered_as(NUMBERED, 1) if with_numbers else []) + numbered_as([LAST])
-
-
-def frame_of(line, sequence, given):
-    service, body = line[1:3]
-    return command_frame(service, body(given) if callable(body) else body, sequence)
-
-
-def known_frames(lines, given):
-    """The frames of the lines up to the first that needs what wasn't given yet."""
-    frames = []
-    for line, sequence in lines:
-        try:
-            frames.append(frame_of(line, sequence, given))
-        except KeyError:
-            break
-    return frames
-
-
 def show_exchange(frame, reply, what=""):
     print(f"{named(Service, reply.service)}{': ' + what if what else ''}")
     print(f"    command {frame.hex()}")
     print(f"    reply   {reply.frame[:len(reply.frame) - len(reply.payload)].hex()} {reply.payload.hex()}".rstrip())
-
-
-def show_line(line, frame, reply, given):
-    """Shows a line of the dialogue and keeps its payload, and says whether its reply is the one that it should be."""
-    what, service, _, wanted, reason = (line + (Status.Ok, ""))[:5]
-    show_exchange(frame, reply, what)
-    if (reply.service, reply.status) != (service, wanted):
-        print(f"    {reply.in_words()}. THIS IS NOT WHAT WAS EXPECTED: {wanted.name}")
-        return False
-    if service == Service.Open and reply.payload not in (b"", TEXT):
-        print(f"    THIS IS NOT THE TEXT: {reply.payload!r}")
-        return False
-    if reply.payload:
-        given[service] = reply.payload
-    opened = f": {reply.payload.decode('ascii')}" if service == Service.Open and reply.payload else ""
-    print(f"    {reply.in_words()}{opened}" + (f". A refusal, as expected: {reason}" if reason else ""))
-    return True
-
-
-def play(words, lines):
-    """Each command once the reply to the one before it is there."""
-    given = {}
-    with Module(words) as module:
-        for line, sequence in lines:
-            frame = frame_of(line, sequence, given)
-            if not show_line(line, frame, module.ask_frame(frame), given):
-                return 1
-        status = module.end()
-    print(f"The input ends: {exit_in_words(status)}")
-    return status
-
-
-def run_at_once(words, frames):
-    """The replies to commands in one piece, and the exit status. The program's messages are dropped."""
-    process = subprocess.Popen(words, stdin=subprocess.PIPE, stdout=subprocess.PIPE, stderr=subprocess.DEVNULL)
-    process.stdin.write(b"".join(frames))
-    process.stdin.close()
-    replies = [read_reply(process.stdout) for _ in frames]
-    status = process.wait()
-    if None in replies:
-        raise Ended(f"the replies ended, with status {status}")
-    return replies, status
-
-
-def play_at_once(words, lines):
-    """For a build that reads its input whole: where a command needs an earlier reply, the run is made anew over the same noise."""
-    given, shown, status = {}, 0, 0
-    while shown < len(lines):
-        frames = known_frames(lines, given)
-        replies, status = run_at_once(words, frames)
-        for (line, _), frame, reply in list(zip(lines, frames, replies))[shown:]:
-            if not show_line(line, frame, reply, given):
-                return 1
-        if len(frames) == shown:
-            raise Ended("a command needs what no reply gave")
-        shown = len(frames)
-    return status
-
-
-def over_files(program, word, names, room, at_once):
-    """The command for a word and the names of its files, which lie in this folder. `rt try` is told where each lies."""
-    paths = [os.path.join(room, name) for name in names]
-    if at_once:
-        told = [part for name, path in zip(names, paths) for part in ("--data", f"{name}={path}")]
-        return [*program, *told, "--", word, *names]
-    return [*program, word, *paths]
-
-
-def write_file(room, name, content):
-    with open(os.path.join(room, name), "wb") as file:
-        file.write(content)
-
-
-def make_files(program, room, at_once):
-    """Makes an image, its digest by the program itself, and noise for a pass of the tests and a reseed. Says whether the digest is right."""
-    image = b"abc"
-    write_file(room, "image", image)
-    digesting = over_files(program, "digest", ["image"], room, at_once)
-    line = subprocess.run(digesting, stdin=subprocess.DEVNULL, stdout=subprocess.PIPE, stderr=subprocess.DEVNULL).stdout
-    write_file(room, "digest", line)
-    write_file(room, "noise", os.urandom(1408 + 256))
-    print(f"The image has {len(image)} bytes, and the digest {line.decode('ascii', 'replace').strip()}")
-    if line != image_digest(image).encode() + b"\n":
-        print(f"    THIS IS NOT WHAT WAS EXPECTED: {image_digest(image)}")
-        return False
-    return True
-
-
-def demo(program, with_numbers, at_once):
-    how = play_at_once if at_once else play
-    with tempfile.TemporaryDirectory() as room:
-        if not make_files(program, room, at_once):
-            return 1
-        words = over_files(program, "serve", ["image", "digest", "noise"], room, at_once)
-        status = how(words, first_dialogue(with_numbers))
-        if status != 0:
-            return status
-        print("\nThe same module once more: keys that are made, used and zeroised")
-        status = how(words, numbered_as(KEYS))
-        if status != 0:
-            return status
-        write_file(room, "image", b"abd")
-        print("\nAnd once more, where a byte of the image was changed")
-        return how(words, numbered_as(CHANGED))
 
 
 def service_and_body(words):
@@ -753,10 +543,8 @@ def main(words):
     options, program = words[1:], []
     if "--" in options:
         options, program = options[: options.index("--")], options[options.index("--") + 1 :]
-    is_numbered, at_once = "--numbered" in options, "--at-once" in options
-    options = [word for word in options if word not in ("--numbered", "--at-once")]
-    if words[:1] == ["demo"] and program and not options:
-        return demo(program, is_numbered, at_once)
+    is_numbered = "--numbered" in options
+    options = [word for word in options if word != "--numbered"]
     if words[:1] == ["talk"] and program and not options:
         return talk(Module(program, is_numbered))
     if words[:1] == ["talk"] and not program and len(options) == 2 and options[0] == "--socket":
@@ -767,7 +555,8 @@ def main(words):
     return 2
 
 
-def run():
+def run(main):
+    """Runs a command by its words, and answers its exit status; what hinders it is told on standard error."""
     try:
         status = main(sys.argv[1:])
         sys.stdout.flush()
@@ -786,4 +575,4 @@ def run():
 
 
 if __name__ == "__main__":
-    sys.exit(run())
+    sys.exit(run(main))
