@@ -1,5 +1,5 @@
 -- What a request leaves where its reply has a status and an error code.
-use Rattle.std.specs.Prelude.{◌≡◌, ◌≢◌, ℕ, false, true, Option, MatchOption, MatchResult}
+use Rattle.std.specs.Prelude.{◌≡◌, ◌≢◌, ℕ, List, get_or, false, true, Option, MatchOption, MatchResult}
 use Rattle.service_table.specs.Answers.{is_status_among}
 use Rattle.service_table.specs.Failures.{failure_code}
 use Rattle.service_table.specs.declared.failure.Failure.{Failure}
@@ -7,6 +7,8 @@ use Rattle.service_table.specs.declared.status.Status.{Status}
 use Rattle.module_frames.specs.declared.public_state.PublicState.{PublicState}
 use Rattle.module_frames.specs.RequestValues.{RequestValue, TestStep}
 use Rattle.module_frames.specs.CommandFrames.{CommandFrame}
+use Rattle.bits_core.specs.declared.parameter.Header.{Header}
+use Rattle.module_frames.specs.PublicState.{header_block}
 use Rattle.module_frames.specs.declared.head.ReplyHead.{ReplyHead}
 use Rattle.module_frames.specs.LawfulSteps.{IsFailure, IsAnswered, IsRefusedAtOnce, begun, found_by, failures, is_of_noise, is_ok, left_by}
 use Rattle.transcript_check.specs.Counting.{IsCountable}
@@ -47,11 +49,11 @@ IsReplied before command reply after = MatchResult (begun before command)
     (λ requested. IsAnswered requested (found_by command before) reply after)
     (λ reason. IsRefusedAtOnce reason before command reply after)
 
--- where a command with this reply leads, and nowhere else; or that it leads nowhere
+-- where a command with this reply leads, and nowhere else, and a walk can go on from there; or that it leads nowhere
 abbrev pub RepliesAt : PublicState → CommandFrame → ReplyHead → Option PublicState → Type 0
 RepliesAt before command reply answer = MatchOption answer
     ((after : PublicState) → IsReplied before command reply after → reply.code ≡ after.error_code → ⊥)
-    (λ after. IsReplied before command reply after × ((other : PublicState) → IsReplied before command reply other → reply.code ≡ other.error_code → other ≡ after))
+    (λ after. IsReplied before command reply after × IsCountable after × ((other : PublicState) → IsReplied before command reply other → reply.code ≡ other.error_code → other ≡ after))
 
 -- the reply is the command's, and tells this state and its error code
 pub record Tells (command : CommandFrame) (reply : ReplyHead) (after : PublicState) : Type 0 where
@@ -63,3 +65,9 @@ pub record Tells (command : CommandFrame) (reply : ReplyHead) (after : PublicSta
 -- where a pair leads by a lawful step, and a walk can go on from there; or that it leads nowhere
 abbrev pub LeadsAt : PublicState → Pair → Option PublicState → Type 0
 LeadsAt before pair answer = MatchOption answer (IsLawfulFrom before pair → ⊥) (λ after. Leads before pair after × IsCountable after)
+
+-- the header that a full slot's block tells with its length, which is in the fifth byte; or that no header is told so
+abbrev pub TellsHeader : List ℕ → Option Header → Type 0
+TellsHeader block answer = MatchOption answer
+    ((header : Header) (long : ℕ) → block ≢ header_block long header)
+    (λ header. block ≡ header_block (get_or block 4 0) header)

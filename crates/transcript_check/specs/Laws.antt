@@ -1,5 +1,5 @@
 -- What follows from the rules of a lawful step, for transcripts.
-use Rattle.std.specs.Prelude.{◌≡◌, ◌==◌, ◌||◌, ◌⊎◌, ℕ, ◌↔◌, Bool, true, List, [], ◌∷◌, length, Option, Some, None}
+use Rattle.std.specs.Prelude.{◌≡◌, ◌==◌, ◌||◌, ◌⊎◌, ℕ, ◌↔◌, Bool, true, List, [], ◌∷◌, length, Some, None}
 use Rattle.service_table.specs.Numbers.{service_number}
 use Rattle.service_table.specs.declared.service.Service.TheVariants as service
 use Rattle.module_frames.specs.CommandFrames.{CommandFrame}
@@ -16,11 +16,11 @@ YesIsLawful = (transcript : List Pair) (answers : List Bool) → IsChecked (Some
 -- Its first no is to the first pair that isn't lawful.
 abbrev pub NoIsFirstUnlawful : Type 0
 NoIsFirstUnlawful = (transcript : List Pair) (answers : List Bool) (number : ℕ) → IsChecked (Some unpowered) transcript answers
-    → (first_no answers ≡ Some number) ↔ IsFirstUnlawful number transcript
+    → (first_no answers ≡ Some number) ↔ IsFirstUnlawful unpowered number transcript
 
 -- A transcript in which a pair isn't lawful isn't lawful.
 abbrev pub UnlawfulIsNotLawful : Type 0
-UnlawfulIsNotLawful = (transcript : List Pair) (number : ℕ) → IsFirstUnlawful number transcript → IsLawful transcript → ⊥
+UnlawfulIsNotLawful = (transcript : List Pair) (number : ℕ) → IsFirstUnlawful unpowered number transcript → IsLawful transcript → ⊥
 
 -- the body is that of a command that brings bytes of a parameter or its check value
 abbrev pub brings_a_secret : CommandFrame → Bool

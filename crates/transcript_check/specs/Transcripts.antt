@@ -28,14 +28,14 @@ IsWalk before (pair ∷ rest) after = (between : PublicState) × Leads before pa
 abbrev pub IsLawful : List Pair → Type 0
 IsLawful transcript = (after : PublicState) × IsWalk unpowered transcript after
 
--- The pair of this number, counted from 1, is the first that isn't lawful: the pairs before it are a walk, and from where that leads
--- it is no lawful step.
-pub record IsFirstUnlawful (number : ℕ) (transcript : List Pair) : Type 0 where
+-- The pair of this number, counted from 1, is the first that isn't lawful in a walk from a public state: the pairs before it are a walk, and
+-- from where that leads it is no lawful step.
+pub record IsFirstUnlawful (start : PublicState) (number : ℕ) (transcript : List Pair) : Type 0 where
   pub earlier : List Pair
   pub pair : Pair
   pub later : List Pair
   pub found : PublicState
   pub split : transcript ≡ earlier ++ (pair ∷ later)
   pub numbered : number ≡ length earlier + 1
-  pub walk : IsWalk unpowered earlier found
+  pub walk : IsWalk start earlier found
   pub unlawful : IsLawfulFrom found pair → ⊥

@@ -22,7 +22,7 @@ pub fn is_in_order(sequence: Option<u32>, expected: u32) -> bool
 pub fn begin<'a>(before: PublicState, command: &'a Command) -> Result<Request<'a>, Status>
     ensures { MatchResult result
         (λ request. (begun before command.now ≡ Ok (request_value request)) × IsInRange (request_value request)
-            × (is_permitted (service_for (request_value request)) before.state ≡ true))
+        × (is_permitted (service_for (request_value request)) before.state ≡ true))
         (λ reason. begun before command.now ≡ Err reason) }
 {
     if !is_in_order(command.sequence(), before.next_sequence) {

@@ -91,13 +91,20 @@ fn tells(command: &Command, head: &ReplyHead, after: PublicState) -> bool
         && head.code == after.error_code
 }
 
+// Whether the reply tells this state and its error code, and that is a code that may follow.
+fn is_told(before: PublicState, command: &Command, head: &ReplyHead, after: PublicState) -> bool
+    ensures { IsTrue result ↔ (Tells command.now head.now after × KeepsCode before command.now after) }
+{
+    tells(command, head, after) && keeps_code(before, command, after)
+}
+
 // The public state to which a pair leads by a lawful step. `None` exactly where it is none.
 fn next(before: PublicState, command: &Command, head: &ReplyHead) -> Option<PublicState>
     requires { IsCountable before }
     ensures { LeadsAt before (record { command = command.now; reply = head.now }) result }
 {
     let after = after_reply(before, command, head)?;
-    (tells(command, head, after) && keeps_code(before, command, after)).then_some(after)
+    is_told(before, command, head, after).then_some(after)
 }
 
 /// A walk through a transcript: the public state to which the pairs so far lead. Contracts see that state, or that the walk ended at a pair
