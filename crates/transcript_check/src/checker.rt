@@ -109,6 +109,7 @@ fn next(before: PublicState, command: &Command, head: &ReplyHead) -> Option<Publ
 
 /// A walk through a transcript: the public state to which the pairs so far lead. Contracts see that state, or that the walk ended at a pair
 /// that isn't lawful.
+#[derive(Clone, Copy)]
 pub struct Checker {
     public: Option<PublicState>,
 }
@@ -123,6 +124,8 @@ impl Model for Checker {
     ghost view = { λ a. a.public };
 
     ghost invariant = { λ a. IfSome a.public IsCountable };
+
+    ghost inverse = { λ public. record { public = public } };
 }
 
 impl Checker {
