@@ -1,0 +1,9 @@
+pub mod RequestKinds
+pub mod Countable
+pub mod Successors
+pub mod Leaving
+pub mod Leading
+pub mod SlotBlocks
+pub mod Walks
+pub mod Blanking
+pub mod Indicators
