@@ -1,5 +1,6 @@
 use Rattle.std.proofs.Common.{subst, List, ℕ, Option, Some, length}
-use Rattle.vector_reports.specs.Reporting.{Streams, Reports}
+use Rattle.stream_calls.specs.Streams.{Streams}
+use Rattle.vector_reports.specs.Reporting.{Reports}
 use Rattle.vector_reports.proofs.VectorRuns.{vectors_of}
 use Rattle.vector_reports.proofs.reporting.report_vectors.Goals as goal
 
