@@ -33,7 +33,7 @@ reads_stay reported.AllPassed before after left h = inl left
 reads_stay reported.SomeFailed before after left h = inl left
 reads_stay (reported.BadLine number) before after left h = inl left
 reads_stay reported.ReadFault before after left h = absurd (h refl)
-reads_stay reported.WriteFault before after left h = elim left [ | inl same ↦ inl same | inr counted ↦ inr (refl, refl, counted) ]
+reads_stay reported.WriteFault before after left h = elim left [ inl same ↦ inl same | inr counted ↦ inr (refl, refl, counted) ]
 reads_stay reported.Limit before after left h = inl left
 
 write_failed : (answer : Reported) (before after : ℕ) → WritesLeft answer before after → report_status answer ≡ 6 → FaultCounted before after

@@ -80,7 +80,7 @@ fn status(alloc: Global, words: &[&str], digest: &[u8], fail: &[u64]) -> Result<
 
 #[test]
 fn knows_no_other_words(rt: HostRuntime) -> Result<(), Fail> {
-    let rows: [&[&str]; 26] = [
+    let rows: [&[&str]; 25] = [
         &[],
         &["serve"],
         &["serve", "image"],
@@ -102,7 +102,14 @@ fn knows_no_other_words(rt: HostRuntime) -> Result<(), Fail> {
         &["session", "-1", "0", "image", "digest", "noise"],
         &["session", "7", "+1", "image", "digest", "noise"],
         &["session", "7", "100001", "image", "digest", "noise"],
-        &["session", "18446744073709551616", "0", "image", "digest", "noise"],
+        &[
+            "session",
+            "18446744073709551616",
+            "0",
+            "image",
+            "digest",
+            "noise",
+        ],
         &["session", "7", "", "image", "digest", "noise"],
         &["sessions", "7", "0", "image", "digest", "noise"],
         &["--help"],

@@ -13,9 +13,9 @@ mod limits;
 mod line_run_tests;
 mod lines_work;
 mod loading;
+mod reporting;
 #[cfg(test)]
 mod run_tests;
-mod reporting;
 mod running;
 mod session_work;
 #[cfg(test)]

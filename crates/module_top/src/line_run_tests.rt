@@ -75,7 +75,8 @@ fn tells_a_failed_call_over_lines(rt: HostRuntime) -> Result<(), Fail> {
 }
 
 // By the model in checks/machine_sessions.py: no noise is there, so that the third test step leads to Error.
-const SUMMARY: &[u8] = b"commands 13\nstatus 0 4\nstatus 1 0\nstatus 2 8\nstatus 3 0\nstatus 4 0\nstatus 5 1\nstatus 6 0\nstatus 7 0\n\
+const SUMMARY: &[u8] =
+    b"commands 13\nstatus 0 4\nstatus 1 0\nstatus 2 8\nstatus 3 0\nstatus 4 0\nstatus 5 1\nstatus 6 0\nstatus 7 0\n\
 status 8 0\nstatus 9 0\nstatus 10 0\nstatus 11 0\nstatus 12 0\nstatus 13 0\nstatus 14 0\nstatus 15 0\npayload 0\nstate Error\n\
 sha256 600016c9dd6a9e459f6287e5ecd80faa123b073928913b0ba98c20f567f06a97\n";
 

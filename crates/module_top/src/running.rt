@@ -53,7 +53,9 @@ fn work_on_files<E: Engine, F: Files, S: Source, K: Sink>(
     let image = load_image(alloc, files, image_name)?;
     let digest = load_digest(alloc, files, digest_name)?;
     let mut noise = open_noise(files, noise_name)?;
-    do_work(alloc, work, engine, image, digest, &mut noise, commands, replies)
+    do_work(
+        alloc, work, engine, image, digest, &mut noise, commands, replies,
+    )
 }
 
 // Does what the words say.

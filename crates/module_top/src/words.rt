@@ -14,10 +14,7 @@ pub enum Work {
     /// `operate`: commands come from the source as lines, and their replies go to the sink as lines.
     Operate,
     /// `session`: the commands are those of a session, and its summary goes to the sink.
-    Session {
-        seed: u64,
-        count: u32,
-    },
+    Session { seed: u64, count: u32 },
 }
 
 /// A form of the words after the program's name, with the names of its files.
