@@ -214,7 +214,8 @@ def enter_and_wrap(dialogue):
 
 def use(dialogue):
     dialogue.say("role user", "")
-    sealed = dialogue.say(f"sealiv 0 16 {IV} {AAD} {TEXT}", "`attack at dawn` under an IV of 12 zero bytes, with `to: all`: ciphertext, and a tag of 16 bytes")
+    words = "`attack at dawn` under an IV of 12 zero bytes, with `to: all`: ciphertext, and a tag of 16 bytes"
+    sealed = dialogue.say(f"sealiv 0 16 {IV} {AAD} {TEXT}", words)
     text, tag = sealed[:-16], sealed[-16:]
     turned = tag[:-1] + bytes([tag[-1] ^ 1])
     dialogue.say(f"open 2 {IV} {AAD} {text.hex()} {tag.hex()}", "opened under slot 2, which has the same key")
@@ -300,6 +301,16 @@ def with_values(lines):
     return lines
 
 
+def is_right_example(row):
+    form, example = row.form.split(), row.example.split()
+    try:
+        service, body = command_of(row.example.encode())
+        read_request(service, body)
+    except (BadLine, BadBody):
+        return False
+    return (named(service), form[0], len(form)) == (row.service, example[0], len(example))
+
+
 def faults_of_examples(lines):
     """Each row of the table of lines: the name of the service, its form, an example."""
     at = lines.index(TABLE_HEADING)
@@ -310,20 +321,13 @@ def faults_of_examples(lines):
         service, form, example = re.match(r"\| (\w+) \| `([^`]+)` \| `([^`]+)` \|", lines[at]).groups()
         found.append(SimpleNamespace(service=service, form=form, example=example))
         at += 1
-    faults = [] if [row.service for row in found] == [named(service) for service in Service] else ["the table hasn't each service once, in order"]
-    for row in found:
-        try:
-            service, body = command_of(row.example.encode())
-            read_request(service, body)
-            right = (named(service), row.form.split()[0], len(row.form.split())) == (row.service, row.example.split()[0], len(row.example.split()))
-        except (BadLine, BadBody):
-            right = False
-        faults += [] if right else [f"the example of {row.service}"]
-    return faults
+    in_order = [row.service for row in found] == [named(service) for service in Service]
+    faults = [] if in_order else ["the table hasn't each service once, in order"]
+    return faults + [f"the example of {row.service}" for row in found if not is_right_example(row)]
 
 
 def faults_of_readme(lines):
-    """The block that begins with `try`: a typed line, its reply, and the next; what stands behind two spaces and a parenthesis isn't typed."""
+    """The block that begins with `try`: a typed line, its reply, and so on."""
     at = lines.index(README_FIRST) + 1
     typed = lines[at : lines.index("```", at)]
     machine, faults = new_machine(), []

@@ -221,9 +221,14 @@ def typed_ahead():
         terminal.ends(0)
 
 
+BAD_LINES = (
+    "frob", "status ", " status", "status 1", "Status", "slot 016", "slot 256", "role crypto", "bytes 4", "bytes 4g", "hash sha1 00",
+    "status # a note",
+)
+
+
 def bad_lines():
-    rows = ["frob", "status ", " status", "status 1", "Status", "slot 016", "slot 256", "role crypto", "bytes 4", "bytes 4g", "hash sha1 00", "status # a note"]
-    for line in rows:
+    for line in BAD_LINES:
         with Terminal() as terminal:
             terminal.type("# lines count from 1, and comments too")
             terminal.type("status", SHOWN)
