@@ -1,6 +1,8 @@
 // Reports over sources and sinks of known content, against the rows of `checks/vector_report_rows.py`. Calls are counted from 1.
 mod rows;
 
+ghost use Rattle.std.specs.Prelude.{◌≤◌};
+
 use crate::{Reported, report_vectors};
 use engine_core::Shipped;
 use line_input::Lines;
@@ -59,10 +61,8 @@ fn lines_have_their_report(rt: HostRuntime) -> Result<(), Fail> {
 #[test]
 fn a_failed_read_leaves_the_report_of_whole_lines(rt: HostRuntime) -> Result<(), Fail> {
     let alloc = rt.alloc();
-    let mut call = 0;
-    for report in rows::cut() {
-        call += 1;
-        let vectors = source(alloc, rows::CUT_LINES.as_bytes(), 20, &[call])?;
+    for (call, report) in rows::cut().iter().enumerate() {
+        let vectors = source(alloc, rows::CUT_LINES.as_bytes(), 20, &[call as u64 + 1])?;
         let (ended, written) = reported(alloc, vectors, sink(alloc, 1_000, 100, &[])?)?;
         assert_eq!(rt; ended, Reported::ReadFault);
         assert_eq!(rt; written.as_slice(), report.as_bytes());
