@@ -1,5 +1,5 @@
 use Rattle.std.proofs.Common.{ap, length, arith}
-use Rattle.session_runs.proofs.InOrder.{session_long}
+use Rattle.session_runs.proofs.SessionLengths.{session_long}
 use Rattle.state_model.specs.MachineState.{initial_state}
 use Rattle.module_top.proofs.WorkOutcomes.{run_from}
 use Rattle.module_top.proofs.session_work.open_and_run.Goals as goal
