@@ -1,0 +1,5 @@
+pub mod BackupForm
+pub mod Backups
+pub mod Laws
+pub mod Reading
+pub mod Restoring

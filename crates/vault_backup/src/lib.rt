@@ -1,0 +1,11 @@
+//! A vault's exportable slots as one sequence of bytes, wrapped and authenticated, and back into a vault.
+#![tactic(auto)]
+
+mod form;
+mod limits;
+mod record;
+mod restore_fault;
+mod wrappings;
+
+pub use limits::{BACKUP_LEAST, BACKUP_MOST};
+pub use restore_fault::RestoreFault;
