@@ -1,2 +1,4 @@
 pub mod Records
 pub mod Passes
+pub mod Forms
+pub mod Unwrapped

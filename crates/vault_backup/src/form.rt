@@ -49,7 +49,7 @@ fn are_records(bytes: &[u8], count: u8) -> bool
     let mut at = 0;
     let mut least = 0;
     for _ in 0..count {
-        let Some(head) = read_record(&bytes[at..]) else {
+        let Some(head) = read_record(bytes, at) else {
             return false;
         };
         if head.slot.get() < least {

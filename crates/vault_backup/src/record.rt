@@ -1,5 +1,5 @@
 // A record of a backup, read from bytes.
-ghost use Rattle.std.specs.Prelude.{◌≡◌, ◌≢◌, ◌≤◌, ◌+◌, ◌++◌, ℕ, List, length, IfSome, IfNone};
+ghost use Rattle.std.specs.Prelude.{◌≡◌, ◌≢◌, ◌≤◌, ◌+◌, ◌++◌, ℕ, List, length, drop, IfSome, IfNone};
 ghost use Rattle.bits_core.specs.Parameters.{kind_of, domain_of};
 ghost use Rattle.vault_backup.specs.BackupForm.{KeptSlot, IsKeptSlot, record_bytes, wrapped_length};
 ghost use Rattle.vault_backup.specs.Reading.{record_with, number_at, Tells, Reads, StandsIn};
@@ -72,8 +72,8 @@ fn make_record(slot: u8, kind: u8, domain: u8, uses: u32, long: u8) -> Option<Re
     })
 }
 
-/// The record that stands at the front of the bytes; None where none does.
-pub fn read_record(bytes: &[u8]) -> Option<Record>
+// The record that stands at the front of the bytes; None where none does.
+fn read_front(bytes: &[u8]) -> Option<Record>
     ensures some { IfSome result (λ head. Reads head bytes.now) }
     ensures none { IfNone result ((kept : KeptSlot) (after : List ℕ) → IsKeptSlot kept → bytes.now ≢ record_bytes kept ++ after) }
 {
@@ -88,12 +88,22 @@ pub fn read_record(bytes: &[u8]) -> Option<Record>
     Some(head)
 }
 
-/// The record at the front of bytes in which one stands.
-pub fn first_record(bytes: &[u8]) -> Record
-    requires { StandsIn bytes.now }
-    ensures { Reads result bytes.now }
+/// The record that begins at this place; None where none does.
+pub fn read_record(bytes: &[u8], at: usize) -> Option<Record>
+    requires { at ≤ length bytes.now }
+    ensures some { IfSome result (λ head. Reads head (drop at bytes.now)) }
+    ensures none { IfNone result ((kept : KeptSlot) (after : List ℕ) → IsKeptSlot kept → drop at bytes.now ≢ record_bytes kept ++ after) }
 {
-    match read_record(bytes) {
+    read_front(&bytes[at..])
+}
+
+/// The record that begins at this place, where one does.
+pub fn known_record(bytes: &[u8], at: usize) -> Record
+    requires within { at ≤ length bytes.now }
+    requires stands { StandsIn (drop at bytes.now) }
+    ensures { Reads result (drop at bytes.now) }
+{
+    match read_record(bytes, at) {
         Some(head) => head,
         None => unreachable!(),
     }
