@@ -2,3 +2,4 @@ pub mod Records
 pub mod Passes
 pub mod Forms
 pub mod Unwrapped
+pub mod Restored

@@ -1,7 +1,7 @@
 -- Records that are read one after another.
-use Rattle.std.proofs.Common.{◌≡◌, ◌≢◌, ◌≤◌, ◌<◌, ◌+◌, ◌*◌, ◌/◌, ◌++◌, ℕ, List, [], ◌∷◌, length, drop, refl, sym, ◌∙◌, ap, subst, arith, length-append}
+use Rattle.std.proofs.Common.{◌≡◌, ◌≢◌, ◌≤◌, ◌<◌, ◌+◌, ◌-◌, ◌*◌, ◌/◌, ◌++◌, ℕ, List, [], ◌∷◌, length, take, drop, refl, sym, ◌∙◌, ap, subst, arith, length-append}
 use Rattle.std.specs.List.{flat_map, AllByRecursion}
-use Rattle.std.proofs.lemmas.List.{append-nil, append_assoc}
+use Rattle.std.proofs.lemmas.List.{append-nil, append_assoc, drop-drop}
 use Rattle.ssp_slots.proofs.WellFormedSlots.{length_fits-le}
 use Rattle.vault_backup.specs.declared.record.Record.{Record}
 use Rattle.vault_backup.specs.BackupForm.{KeptSlot, IsKeptSlot, AreRising, AreRecords, record_bytes, wrapped_length}
@@ -64,7 +64,7 @@ next_is (kept ∷ more) rest head e h reads =
     (more, ap (λ k. k ∷ more) same.0, sym same.1)
 
 -- the record that stands in the bytes that are left is the next one
-next_of : (Done : List KeptSlot → Type 0) (records : List KeptSlot) (bytes rest : List ℕ) (head : Record) → AreRecords bytes records
+pub next_of : (Done : List KeptSlot → Type 0) (records : List KeptSlot) (bytes rest : List ℕ) (head : Record) → AreRecords bytes records
     → (h : ReadsUpTo Done records rest) → Reads head rest
     → (after : List KeptSlot) × (records ≡ h.done ++ kept_in head rest ∷ after) × (after_record head rest ≡ flat_map record_bytes after)
 next_of Done records bytes rest head are h reads =
@@ -107,3 +107,14 @@ none_more Done records done (kept ∷ more) parts none holds = absurd (let some 
 -- where no byte is left, all were read
 pub all_read : (Done : List KeptSlot → Type 0) (records : List KeptSlot) (rest : List ℕ) → ReadsUpTo Done records rest → rest ≡ [] → Done records
 all_read Done records rest h none = none_more Done records h.done h.more h.parts (sym h.left ∙ none) h.so_far
+
+-- what follows a record, and what is wrapped in it, where the record begins at a place
+pub after_is : (bytes : List ℕ) (at after : ℕ) (head : Record) → after ≡ at + (8 + wrapped_length head.length)
+    → after_record head (drop at bytes) ≡ drop after bytes
+after_is bytes at after head e = drop-drop (8 + wrapped_length head.length) at bytes ∙ ap (λ n. drop n bytes) (sym e)
+
+pub wrapped_is : (bytes : List ℕ) (at after : ℕ) (head : Record) → after ≡ at + (8 + wrapped_length head.length)
+    → take (after - (at + 8)) (drop (at + 8) bytes) ≡ (kept_in head (drop at bytes)).wrapped
+wrapped_is bytes at after head e =
+    let n : after - (at + 8) ≡ wrapped_length head.length = omega (arith, e) in
+    ap (λ k. take k (drop (at + 8) bytes)) n ∙ ap (λ xs. take (wrapped_length head.length) xs) (sym (drop-drop 8 at bytes))

@@ -5,7 +5,9 @@ mod form;
 mod limits;
 mod record;
 mod restore_fault;
+mod restoring;
 mod wrappings;
 
 pub use limits::{BACKUP_LEAST, BACKUP_MOST};
 pub use restore_fault::RestoreFault;
+pub use restoring::restore;
