@@ -1,10 +1,12 @@
 -- Slots that are filled one after another.
-use Rattle.std.proofs.Common.{◌≡◌, ◌≢◌, ◌≤◌, ◌<◌, ◌+◌, ◌++◌, ℕ, Bool, Option, None, List, [], ◌∷◌, length, refl, sym, ◌∙◌, ap, subst, arith}
+use Rattle.std.proofs.Common.{◌≡◌, ◌≢◌, ◌≤◌, ◌<◌, ◌+◌, ◌++◌, ℕ, Bool, Option, None, Some, List, [], ◌∷◌, length, refl, sym, ◌∙◌, ap, subst, arith}
 use Rattle.std.specs.List.{AllByRecursion}
 use Rattle.std.proofs.lemmas.List.{length-set}
 use Rattle.key_wrap.specs.Wrapping.{IsKwpOf}
 use Rattle.ssp_slots.specs.declared.slot.Slot.{Slot}
 use Rattle.ssp_slots.specs.Slots.{Contents, AreWellFormed, slot_in, filled_in, filled_slot}
+use Rattle.ssp_slots.specs.Refusals.{vacancy_fault}
+use Rattle.ssp_slots.specs.declared.slot_fault.SlotFault.{SlotFault}
 use Rattle.ssp_slots.proofs.WellFormedSlots.{slot_in-with_slot_same, slot_in-with_slot_other}
 use Rattle.vault_backup.specs.BackupForm.{KeptSlot, AreRising, header_of}
 use Rattle.std.specs.Prelude.{Result, Ok, Err}
@@ -85,3 +87,12 @@ restores_with kek mac bytes old new (Err (fault.Wrapped id)) records signed h = 
 restores_with kek mac bytes old new (Err (fault.Occupied id)) records signed h = (records, signed, h)
 restores_with kek mac bytes old new (Err fault.Form) records signed h = absurd h
 restores_with kek mac bytes old new (Err fault.Tag) records signed h = absurd h
+
+-- whether a slot is empty, by the fault of filling it
+pub vacancy : (header : Option Header) → vacancy_fault header ≡ None → header ≡ None
+vacancy None e = refl
+vacancy (Some header) e = cc
+
+pub no_vacancy : (header : Option Header) (refused : SlotFault) → vacancy_fault header ≡ Some refused → header ≢ None
+no_vacancy None refused e same = cc
+no_vacancy (Some header) refused e same = cc

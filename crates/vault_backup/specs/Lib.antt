@@ -3,3 +3,4 @@ pub mod Backups
 pub mod Laws
 pub mod Reading
 pub mod Restoring
+pub mod Writing

@@ -7,7 +7,9 @@ mod record;
 mod restore_fault;
 mod restoring;
 mod wrappings;
+mod writing;
 
 pub use limits::{BACKUP_LEAST, BACKUP_MOST};
 pub use restore_fault::RestoreFault;
 pub use restoring::restore;
+pub use writing::backup;

@@ -96,8 +96,9 @@ fn first_full(vault: &Vault, bytes: &[u8]) -> Option<SlotId>
     let mut at = 0;
     while at < bytes.len() {
         let head = known_record(bytes, at);
-        if vault.vacant(head.slot).is_err() {
-            return Some(head.slot);
+        match vault.vacant(head.slot) {
+            Ok(()) => {}
+            Err(_) => return Some(head.slot),
         }
         at += head.whole_length();
     }
