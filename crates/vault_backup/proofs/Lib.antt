@@ -3,3 +3,5 @@ pub mod Passes
 pub mod Forms
 pub mod Unwrapped
 pub mod Restored
+pub mod Kept
+pub mod BackupLaws

@@ -1,5 +1,5 @@
 -- What follows of backups, restored or not.
-use Rattle.std.specs.Prelude.{◌≡◌, ◌≤◌, ◌<◌, ℕ, List, length, Result, Ok}
+use Rattle.std.specs.Prelude.{◌≡◌, ◌≤◌, ◌<◌, ℕ, List, length, Result, Ok, IsOk}
 use Rattle.bits_core.specs.ByteList.{IsBytes}
 use Rattle.ssp_slots.specs.Slots.{Contents, AreWellFormed, slot_in, empty_slot}
 use Rattle.vault_backup.specs.declared.limits.TheConstants.{BACKUP_LEAST, BACKUP_MOST}
@@ -41,3 +41,10 @@ ParsesInOneWay = (bytes tag other_tag : List ℕ) (records others : List KeptSlo
 abbrev pub BackupsTellKeptSlotsAlone : Type 0
 BackupsTellKeptSlotsAlone = (one other : Contents) (kek mac : List ℕ)
     → ((id : ℕ) → id < 16 → kept_part (slot_in one id) ≡ kept_part (slot_in other id)) → backup_of one kek mac ≡ backup_of other kek mac
+
+-- Restoring the same bytes into the same vault gives one answer, and where it is Ok one vault: so each refusal comes exactly where its cause
+-- is the first that holds.
+abbrev pub AnswersInOneWay : Type 0
+AnswersInOneWay = (kek mac bytes : List ℕ) (old new other : Contents) (result answer : Result ℕ RestoreFault) → IsKey kek
+    → Restores kek mac bytes old result new → Restores kek mac bytes old answer other
+    → (result ≡ answer) × (IsOk result → ((id : ℕ) → slot_in new id ≡ slot_in other id) × (new.rows ≡ other.rows))

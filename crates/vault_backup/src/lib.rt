@@ -2,6 +2,7 @@
 #![tactic(auto)]
 
 mod form;
+mod laws;
 mod limits;
 mod record;
 mod restore_fault;
@@ -9,6 +10,10 @@ mod restoring;
 mod wrappings;
 mod writing;
 
+pub use laws::{
+    answers_in_one_way, backups_have_the_form, backups_tell_kept_slots_alone, parses_in_one_way,
+    restores_what_was_kept,
+};
 pub use limits::{BACKUP_LEAST, BACKUP_MOST};
 pub use restore_fault::RestoreFault;
 pub use restoring::restore;
