@@ -5,3 +5,4 @@ pub mod Unwrapped
 pub mod Restored
 pub mod Kept
 pub mod BackupLaws
+pub mod RestoreLaws
