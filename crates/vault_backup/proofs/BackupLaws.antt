@@ -1,10 +1,8 @@
 -- What follows of backups.
-use Rattle.std.proofs.Common.{◌≡◌, ◌≢◌, ◌≤◌, ◌<◌, ◌+◌, ◌*◌, ◌/◌, ◌-◌, ◌++◌, ℕ, zero, suc, Bool, true, Option, Some, None, List, [], ◌∷◌, length, take, drop, refl, sym, ◌∙◌, ap, subst, arith, IsTrue, length-append, inl, inr}
-use Rattle.std.specs.Prelude.{Result, Ok, Err}
+use Rattle.std.proofs.Common.{◌≡◌, ◌≤◌, ◌<◌, ◌+◌, ◌*◌, ◌++◌, ℕ, zero, suc, Option, Some, None, List, [], ◌∷◌, length, refl, sym, ◌∙◌, ap, subst, arith, IsTrue, length-append, inl, inr}
 use Rattle.std.specs.List.{flat_map, AllByRecursion}
-use Rattle.std.proofs.lemmas.Bool.{cases_eq, cases_lt}
-use Rattle.std.proofs.lemmas.List.{append_cancel_right, append-nil}
-use Rattle.bits_core.specs.ByteList.{IsBytes}
+use Rattle.std.proofs.lemmas.Bool.{cases_eq}
+use Rattle.std.proofs.lemmas.List.{append-nil}
 use Rattle.bits_core.specs.declared.algorithm.Alg.TheVariants.{Sha256}
 use Rattle.std.specs.Option.{option_map_or}
 use Rattle.std.proofs.lemmas.Bool.Decides.{nat_tests}
@@ -21,14 +19,12 @@ use Rattle.key_wrap.proofs.Lengths.{length-kwp}
 use Rattle.ssp_slots.specs.declared.slot.Slot.{Slot}
 use Rattle.ssp_slots.specs.Slots.{Contents, AreWellFormed, HoldsParameter, slot_in, parameter, empty_slot}
 use Rattle.ssp_slots.proofs.WellFormedSlots.{HoldsParameter-at, length-parameter, length_fits-le}
-use Rattle.vault_backup.specs.declared.limits.TheConstants.{MAGIC}
-use Rattle.vault_backup.specs.BackupForm.{KeptSlot, IsKeptSlot, AreRising, record_bytes, signed_bytes, tag_of, IsBackupWith, HasForm, wrapped_length}
-use Rattle.vault_backup.specs.Backups.{if_kept, kept_part, kept_slot, kept_at, kept_below, kept_slots, backup_of}
-use Rattle.vault_backup.specs.Restoring.{IsSigned}
+use Rattle.vault_backup.specs.BackupForm.{KeptSlot, IsKeptSlot, AreRising, record_bytes, signed_bytes, tag_of, wrapped_length}
+use Rattle.vault_backup.specs.Backups.{if_kept, kept_part, kept_slot, kept_at, kept_below, kept_slots}
 use Rattle.vault_backup.specs.Laws.{BackupsHaveTheForm, FormsAreBounded, ParsesInOneWay, BackupsTellKeptSlotsAlone}
 use Rattle.vault_backup.proofs.Records.{one_record, length-record}
 use Rattle.vault_backup.proofs.Passes.{all_both, all_before, all_behind}
-use Rattle.vault_backup.proofs.Forms.{HasParts, parts_with}
+use Rattle.vault_backup.proofs.Forms.{parts_with}
 use Rattle.vault_backup.proofs.Kept.{IsHeaderOf, if_kept-some}
 
 same_records : (records others : List KeptSlot) → AllByRecursion IsKeptSlot records → AllByRecursion IsKeptSlot others

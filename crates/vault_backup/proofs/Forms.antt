@@ -1,9 +1,9 @@
 -- The form of a backup, and its parts.
 use Rattle.std.proofs.Common.{◌≡◌, ◌≢◌, ◌≤◌, ◌<◌, ◌+◌, ◌-◌, ◌++◌, ℕ, List, [], ◌∷◌, length, take, drop, get_or, refl, sym, ◌∙◌, ap, subst, arith, IsTrue, length-append, length-drop}
 use Rattle.std.specs.Prelude.{nat_eq}
-use Rattle.std.specs.List.{flat_map, AllByRecursion}
+use Rattle.std.specs.List.{flat_map}
 use Rattle.std.proofs.lemmas.Bool.Decides.{nat_tests}
-use Rattle.std.proofs.lemmas.List.{take_at, drop_at, drop_all, drop-drop, take-append-drop, append_assoc, length-take-le}
+use Rattle.std.proofs.lemmas.List.{take_at, drop_at, drop_all, drop-drop, take-append-drop}
 use Rattle.vault_backup.specs.declared.limits.TheConstants.{MAGIC}
 use Rattle.vault_backup.specs.declared.record.Record.{Record}
 use Rattle.vault_backup.specs.BackupForm.{KeptSlot, IsKeptSlot, AreRising, AreRecords, record_bytes, signed_bytes, IsBackupWith, HasForm}
@@ -36,23 +36,27 @@ later_records : (least m n : ℕ) (rest : List ℕ) (head : Record) → m ≡ n 
     → AreRecordsFrom least m rest records → HasRecordsFrom (head.slot + 1) n (after_record head rest)
 later_records least m n rest head one reads [] h = absurd (omega (arith, one, h.counted))
 later_records least m n rest head one reads (kept ∷ more) h =
-    let same = one_record kept (kept_in head rest) (flat_map record_bytes more) (after_record head rest) h.each.0 reads.kept (sym h.encoded ∙ reads.encoded) in
-    (more, record {
-      encoded = sym same.1;
-      rising = subst (λ (k : KeptSlot). AreRising (k.slot + 1) more) same.0 h.rising.1;
-      each = h.each.1;
-      counted = omega (arith, one, h.counted);
-    })
+    let same = one_record kept (kept_in head rest) (flat_map record_bytes more) (after_record head rest) h.each.0 reads.kept (sym h.encoded ∙ reads.encoded) in (
+      more,
+      record {
+        encoded = sym same.1;
+        rising = subst (λ (k : KeptSlot). AreRising (k.slot + 1) more) same.0 h.rising.1;
+        each = h.each.1;
+        counted = omega (arith, one, h.counted);
+      },
+    )
 
 earlier_records : (least m n : ℕ) (rest : List ℕ) (head : Record) → m ≡ n + 1 → least ≤ head.slot → Reads head rest
     → HasRecordsFrom (head.slot + 1) n (after_record head rest) → HasRecordsFrom least m rest
-earlier_records least m n rest head one low reads h =
-    (kept_in head rest ∷ h.0, record {
-      encoded = reads.encoded ∙ ap (λ xs. record_bytes (kept_in head rest) ++ xs) h.1.encoded;
-      rising = (low, h.1.rising);
-      each = (reads.kept, h.1.each);
-      counted = omega (arith, one, h.1.counted);
-    })
+earlier_records least m n rest head one low reads h = (
+  kept_in head rest ∷ h.0,
+  record {
+    encoded = reads.encoded ∙ ap (λ xs. record_bytes (kept_in head rest) ++ xs) h.1.encoded;
+    rising = (low, h.1.rising);
+    each = (reads.kept, h.1.each);
+    counted = omega (arith, one, h.1.counted);
+  },
+)
 
 -- the bytes are records where those after the first one are
 pub step_from : (least m n : ℕ) (rest : List ℕ) (head : Record) → m ≡ n + 1 → least ≤ head.slot → Reads head rest

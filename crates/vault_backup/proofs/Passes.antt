@@ -1,10 +1,10 @@
 -- Records that are read one after another.
-use Rattle.std.proofs.Common.{◌≡◌, ◌≢◌, ◌≤◌, ◌<◌, ◌+◌, ◌-◌, ◌*◌, ◌/◌, ◌++◌, ℕ, List, [], ◌∷◌, length, take, drop, refl, sym, ◌∙◌, ap, subst, arith, length-append}
+use Rattle.std.proofs.Common.{◌≡◌, ◌≤◌, ◌<◌, ◌+◌, ◌-◌, ◌++◌, ℕ, List, [], ◌∷◌, length, take, drop, refl, sym, ◌∙◌, ap, subst, arith, length-append}
 use Rattle.std.specs.List.{flat_map, AllByRecursion}
 use Rattle.std.proofs.lemmas.List.{append-nil, append_assoc, drop-drop}
 use Rattle.ssp_slots.proofs.WellFormedSlots.{length_fits-le}
 use Rattle.vault_backup.specs.declared.record.Record.{Record}
-use Rattle.vault_backup.specs.BackupForm.{KeptSlot, IsKeptSlot, AreRising, AreRecords, record_bytes, wrapped_length}
+use Rattle.vault_backup.specs.BackupForm.{KeptSlot, IsKeptSlot, AreRecords, record_bytes, wrapped_length}
 use Rattle.vault_backup.specs.Reading.{kept_in, after_record, Reads, StandsIn}
 use Rattle.vault_backup.specs.Restoring.{IsFirstWithout}
 use Rattle.vault_backup.proofs.Records.{one_record, length-record}

@@ -1,7 +1,6 @@
 -- What stands at the front of bytes in which a record stands.
-use Rattle.std.proofs.Common.{◌≡◌, ◌≢◌, ◌≤◌, ◌<◌, ◌+◌, ◌*◌, ◌/◌, ◌^◌, ◌++◌, ℕ, zero, suc, lit<, Bool, true, false, List, [], ◌∷◌, Option, None, Some, length, take, drop, get_or, refl, sym, ◌∙◌, ap, subst, arith, length-append, length-drop, if◌then◌else◌, IsTrue}
-use Rattle.std.specs.Prelude.{nat_lt, nat_le, ◌&&◌}
-use Rattle.std.specs.Int.{to_be_bytes, from_be_bytes, w32}
+use Rattle.std.proofs.Common.{◌≡◌, ◌≤◌, ◌<◌, ◌+◌, ◌++◌, ℕ, zero, suc, lit<, true, List, [], ◌∷◌, Some, length, take, drop, get_or, refl, sym, ◌∙◌, ap, subst, arith, length-drop, IsTrue}
+use Rattle.std.specs.Int.{to_be_bytes, w32}
 use Rattle.std.proofs.lemmas.Bool.Decides.{nat_tests}
 use Rattle.std.proofs.lemmas.List.{take_at, drop_at, take-append-drop, length-take-le, drop-drop}
 use Rattle.std.proofs.lemmas.Nat.{from_be_bytes-to_be_bytes_4, be_bytes_4}
@@ -13,7 +12,7 @@ use Rattle.bits_core.specs.declared.parameter.Domain.TheVariants.{Other, Approve
 use Rattle.bits_core.specs.Parameters.{kind_number, kind_of, domain_number, domain_of, length_fits}
 use Rattle.vault_backup.specs.declared.record.Record.{Record}
 use Rattle.vault_backup.specs.BackupForm.{KeptSlot, IsKeptSlot, record_bytes, wrapped_length, header_of}
-use Rattle.vault_backup.specs.Reading.{number_at, record_with, Tells, kept_in, after_record, Reads, StandsIn}
+use Rattle.vault_backup.specs.Reading.{number_at, record_with, Tells, Reads}
 
 pub kind_of-number : (kind : Kind) → kind_of (kind_number kind) ≡ Some kind
 kind_of-number Aes = refl

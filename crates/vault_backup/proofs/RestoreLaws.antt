@@ -1,5 +1,5 @@
 -- What follows of backups that are restored.
-use Rattle.std.proofs.Common.{◌≡◌, ◌≢◌, ◌≤◌, ◌<◌, ◌+◌, ◌-◌, ◌++◌, ℕ, Bool, true, Option, Some, None, List, [], ◌∷◌, length, take, drop, refl, sym, ◌∙◌, ap, subst, arith, inl, inr}
+use Rattle.std.proofs.Common.{◌≡◌, ◌≢◌, ◌<◌, ◌-◌, ◌++◌, ℕ, Bool, Option, Some, None, List, [], ◌∷◌, length, refl, sym, ◌∙◌, ap, subst, inl, inr}
 use Rattle.std.specs.Prelude.{Result, Ok, Err, IsOk}
 use Rattle.std.specs.List.{AllByRecursion}
 use Rattle.std.specs.Option.{option_map_or}
@@ -11,11 +11,11 @@ use Rattle.aes_core.specs.Key.{aes}
 use Rattle.key_wrap.specs.Wrapping.{kwp, IsKwpOf}
 use Rattle.key_wrap.proofs.Checked.{kwp_unique}
 use Rattle.ssp_slots.specs.declared.slot.Slot.{Slot}
-use Rattle.ssp_slots.specs.Slots.{Contents, AreWellFormed, HoldsParameter, slot_in, parameter, empty_slot, filled_slot}
+use Rattle.ssp_slots.specs.Slots.{Contents, AreWellFormed, slot_in, parameter, empty_slot, filled_slot}
 use Rattle.vault_backup.specs.declared.restore_fault.RestoreFault.{RestoreFault}
 use Rattle.vault_backup.specs.declared.restore_fault.RestoreFault.TheVariants as fault
 use Rattle.vault_backup.specs.BackupForm.{KeptSlot, header_of, tag_of, HasForm}
-use Rattle.vault_backup.specs.Backups.{if_kept, kept_part, kept_slot, kept_at, kept_slots, backup_of}
+use Rattle.vault_backup.specs.Backups.{if_kept, kept_part, kept_slot, kept_slots, backup_of}
 use Rattle.vault_backup.specs.Restoring.{IsWrapping, IsVacant, IsFirstWithout, HoldsKept, IsRestored, IsSigned, RestoresRecords, Restores}
 use Rattle.vault_backup.specs.Laws.{IsKey, AreEmpty, RestoresWhatWasKept, AnswersInOneWay}
 use Rattle.vault_backup.proofs.Restored.{all_at}

@@ -53,7 +53,7 @@ restored_more kek old now next done kept parameter h apart below well wrapping l
     let here : slot_in next kept.slot ≡ slot =
     ap (λ (v : Contents). slot_in v kept.slot) filled ∙ slot_in-with_slot_same now kept.slot slot (omega arith) in
     let stay : (other : ℕ) → other ≢ kept.slot → slot_in next other ≡ slot_in now other = λ other differs.
-        ap (λ (v : Contents). slot_in v other) filled ∙ slot_in-with_slot_other now kept.slot other slot differs in
+    ap (λ (v : Contents). slot_in v other) filled ∙ slot_in-with_slot_other now kept.slot other slot differs in
     record {
       each = all_both (HoldsKept kek next) done (kept ∷ []) (holds_still kek now next kept.slot done stay apart h.each) ((parameter, wrapping, long, here), tt);
       others = λ id none.

@@ -1,5 +1,5 @@
 -- The backup of a vault: this project's own rule.
-use Rattle.std.specs.Prelude.{◌≡◌, ℕ, zero, suc, ◌&&◌, nat_le, Option, Some, None, List, [], ◌∷◌, ◌++◌, if◌then◌else◌}
+use Rattle.std.specs.Prelude.{ℕ, zero, suc, ◌&&◌, nat_le, Option, Some, None, List, [], ◌∷◌, ◌++◌, if◌then◌else◌}
 use Rattle.std.specs.Option.{option_map_or}
 use Rattle.bits_core.specs.declared.parameter.Header.{Header}
 use Rattle.aes_core.specs.Key.{aes}
@@ -20,13 +20,13 @@ kept_part slot = option_map_or (λ _. slot) (if_kept slot.header) empty_slot
 -- the slot as a backup has it: its parameter is wrapped under the key-encryption key
 abbrev pub kept_slot : List ℕ → ℕ → Slot → Header → KeptSlot
 kept_slot kek id slot header = record {
-      slot = id;
-      kind = header.kind;
-      domain = header.domain;
-      uses = header.uses;
-      size = slot.length;
-      wrapped = kwp (aes kek) (parameter slot);
-    }
+  slot = id;
+  kind = header.kind;
+  domain = header.domain;
+  uses = header.uses;
+  size = slot.length;
+  wrapped = kwp (aes kek) (parameter slot);
+}
 
 -- what a backup has of the slot with a number: nothing where it isn't kept
 abbrev pub kept_at : List ℕ → Contents → ℕ → List KeptSlot

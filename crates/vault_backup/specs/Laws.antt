@@ -4,7 +4,7 @@ use Rattle.bits_core.specs.ByteList.{IsBytes}
 use Rattle.ssp_slots.specs.Slots.{Contents, AreWellFormed, slot_in, empty_slot}
 use Rattle.vault_backup.specs.declared.limits.TheConstants.{BACKUP_LEAST, BACKUP_MOST}
 use Rattle.vault_backup.specs.declared.restore_fault.RestoreFault.{RestoreFault}
-use Rattle.vault_backup.specs.BackupForm.{KeptSlot, IsBackupWith, HasForm}
+use Rattle.vault_backup.specs.BackupForm.{KeptSlot, IsBackupWith}
 use Rattle.vault_backup.specs.Backups.{kept_part, kept_slots, backup_of}
 use Rattle.vault_backup.specs.Restoring.{IsSigned, Restores}
 

@@ -38,13 +38,13 @@ pub record Tells (head : Record) (slot kind domain uses size : ℕ) : Type 0 whe
 -- the slot that a record tells, with what is wrapped in the bytes at whose front it stands
 abbrev pub kept_in : Record → List ℕ → KeptSlot
 kept_in head bytes = record {
-      slot = head.slot;
-      kind = head.header.kind;
-      domain = head.header.domain;
-      uses = head.header.uses;
-      size = head.length;
-      wrapped = take (wrapped_length head.length) (drop 8 bytes);
-    }
+  slot = head.slot;
+  kind = head.header.kind;
+  domain = head.header.domain;
+  uses = head.header.uses;
+  size = head.length;
+  wrapped = take (wrapped_length head.length) (drop 8 bytes);
+}
 
 -- what follows the record
 abbrev pub after_record : Record → List ℕ → List ℕ

@@ -1,5 +1,5 @@
 -- What restoring does, and when it is refused: this project's own rule.
-use Rattle.std.specs.Prelude.{◌≡◌, ◌≢◌, ℕ, Option, None, List, [], ◌∷◌, ◌++◌, length, Result, Ok, Err}
+use Rattle.std.specs.Prelude.{◌≡◌, ◌≢◌, ℕ, None, List, ◌∷◌, ◌++◌, length, Result, Ok, Err}
 use Rattle.std.specs.List.{AllByRecursion}
 use Rattle.key_wrap.specs.Wrapping.{IsKwpOf}
 use Rattle.ssp_slots.specs.Slots.{Contents, slot_in, filled_slot}

@@ -38,12 +38,7 @@ pub fn backup(vault: &Vault, kek: &[u8; 32], mac: &[u8; 32], out: &mut Outbox)
 }
 
 // Puts a backup.
-fn put_backup(
-    vault: &Vault,
-    schedule: &Schedule,
-    mac: &[u8; 32],
-    port: &mut Port<'_, Enabled>,
-)
+fn put_backup(vault: &Vault, schedule: &Schedule, mac: &[u8; 32], port: &mut Port<'_, Enabled>)
     requires expanded { (key : List ℕ) × IsExpanded schedule.now key }
     requires empty { port.old.outbox.now.bytes ≡ [] }
     requires room { BACKUP_MOST ≤ port.old.outbox.now.room }

@@ -1,10 +1,10 @@
-use Rattle.std.proofs.Common.{◌≡◌, ◌≤◌, ◌+◌, ◌-◌, ℕ, List, length, drop, sym, ap, ◌∙◌, subst, arith}
+use Rattle.std.proofs.Common.{◌≡◌, ◌+◌, ◌-◌, ℕ, List, drop, sym, ap, ◌∙◌, subst, arith}
 use Rattle.std.proofs.lemmas.Bool.{false≢true}
 use Rattle.std.proofs.lemmas.List.{drop-drop, length-drop}
 use Rattle.vault_backup.specs.BackupForm.{wrapped_length}
 use Rattle.vault_backup.specs.Reading.{HasRecordsFrom, Reads, after_record}
 use Rattle.vault_backup.proofs.Passes.{reads_long}
-use Rattle.vault_backup.proofs.Forms.{none_from, low_from, step_from, end_from}
+use Rattle.vault_backup.proofs.Forms.{none_from, low_from, step_from}
 use Rattle.vault_backup.proofs.form.are_records.Goals as goal
 
 pub returns-in_default : goal.returns-in_default

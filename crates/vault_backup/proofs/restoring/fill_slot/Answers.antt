@@ -1,4 +1,4 @@
-use Rattle.std.proofs.Common.{◌≤◌, ℕ, List, length, take, arith}
+use Rattle.std.proofs.Common.{◌≤◌, ℕ, take, arith}
 use Rattle.std.proofs.lemmas.List.{length-take-le}
 use Rattle.ssp_slots.proofs.WellFormedSlots.{length_fits-le}
 use Rattle.vault_backup.proofs.restoring.fill_slot.Goals as goal

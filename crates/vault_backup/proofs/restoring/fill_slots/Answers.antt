@@ -1,12 +1,12 @@
-use Rattle.std.proofs.Common.{◌≡◌, ◌≤◌, ◌+◌, ◌-◌, ◌++◌, ℕ, List, [], ◌∷◌, length, take, drop, refl, sym, ap, ◌∙◌, subst, arith}
+use Rattle.std.proofs.Common.{◌≡◌, ◌+◌, ℕ, List, length, drop, refl, sym, ap, ◌∙◌, subst, arith}
 use Rattle.std.specs.List.{AllByRecursion}
 use Rattle.std.proofs.lemmas.List.{length-drop, drop_all, length_push}
 use Rattle.key_wrap.specs.Wrapping.{IsKwpOf}
 use Rattle.bits_core.specs.declared.parameter.Header.{Header}
 use Rattle.ssp_slots.specs.Slots.{Contents, filled_in}
-use Rattle.vault_backup.specs.BackupForm.{KeptSlot, AreRecords, AreRising, wrapped_length}
+use Rattle.vault_backup.specs.BackupForm.{KeptSlot, AreRising, wrapped_length}
 use Rattle.vault_backup.specs.Reading.{Reads, kept_in}
-use Rattle.vault_backup.specs.Restoring.{IsWrapping, IsWrappingOf, IsVacant, IsRestored}
+use Rattle.vault_backup.specs.Restoring.{IsWrapping, IsWrappingOf, IsRestored}
 use Rattle.vault_backup.proofs.Passes.{ReadsUpTo, nothing_read, one_stands, one_read, next_of, all_read, reads_long, after_is, wrapped_is}
 use Rattle.vault_backup.proofs.Restored.{restored_none, restored_more, apart, all_at, still_vacant, header_is}
 use Rattle.vault_backup.proofs.restoring.fill_slots.Goals as goal
@@ -87,7 +87,7 @@ loop-at-preserved c =
           (c.loop-at.invariant.so_far key records is are) reads
           (λ done later parts h. (
             restored_more key old now new done kept f.0 h.0 (apart 0 done kept later (subst Rises parts are.rising)) reads.kept.below c.fill_slot.ensures.well_formed
-            wrapping f.2 filled,
+                wrapping f.2 filled,
             omega (arith, h.1, length_push done kept),
           )));
     }

@@ -1,8 +1,8 @@
-use Rattle.std.proofs.Common.{◌≡◌, ◌≤◌, ◌+◌, ◌-◌, ℕ, List, [], length, drop, refl, sym, ap, ◌∙◌, subst, arith}
+use Rattle.std.proofs.Common.{◌≡◌, ◌+◌, ℕ, List, drop, ap, subst, arith}
 use Rattle.std.specs.List.{AllByRecursion}
 use Rattle.std.proofs.lemmas.List.{length-drop, drop_all}
 use Rattle.ssp_slots.specs.Slots.{slot_in}
-use Rattle.vault_backup.specs.BackupForm.{KeptSlot, AreRecords, wrapped_length}
+use Rattle.vault_backup.specs.BackupForm.{wrapped_length}
 use Rattle.vault_backup.specs.Reading.{Reads}
 use Rattle.vault_backup.specs.Restoring.{IsVacant}
 use Rattle.vault_backup.proofs.Passes.{ReadsUpTo, nothing_read, one_stands, one_more_read, first_read, all_read, reads_long, after_is}

@@ -1,7 +1,6 @@
-use Rattle.std.proofs.Common.{◌≡◌, ◌≤◌, ℕ, List, length, take, refl, sym, ap, subst, arith, IsTrue}
+use Rattle.std.proofs.Common.{ℕ, List, take, refl, sym, subst, arith}
 use Rattle.std.proofs.lemmas.Bool.{false≢true}
 use Rattle.key_wrap.specs.Wrapping.{IsKwpOf}
-use Rattle.vault_backup.specs.Restoring.{IsWrappingOf}
 use Rattle.vault_backup.proofs.Unwrapped.{found_some}
 use Rattle.vault_backup.proofs.wrappings.is_wrapping.Goals as goal
 

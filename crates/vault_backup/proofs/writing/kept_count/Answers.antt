@@ -1,4 +1,4 @@
-use Rattle.std.proofs.Common.{◌≡◌, ◌+◌, ◌++◌, ℕ, Option, IfSome, List, length, sym, ap, ◌∙◌, subst, arith, length-append}
+use Rattle.std.proofs.Common.{◌≡◌, ◌+◌, ℕ, Option, IfSome, length, sym, ap, ◌∙◌, subst, arith, length-append}
 use Rattle.vault_backup.specs.BackupForm.{KeptSlot}
 use Rattle.vault_backup.specs.Backups.{kept_below, kept_at}
 use Rattle.vault_backup.proofs.Kept.{kept_none, kept_more}

@@ -1,8 +1,8 @@
-use Rattle.std.proofs.Common.{◌≡◌, ◌≤◌, ◌+◌, ◌++◌, ℕ, List, [], ◌∷◌, length, take, sym, ap, ◌∙◌, arith, length-append}
+use Rattle.std.proofs.Common.{◌≡◌, ◌++◌, ℕ, List, [], ◌∷◌, length, take, ap, ◌∙◌, arith, length-append}
 use Rattle.std.specs.List.{flat_map}
 use Rattle.bits_core.specs.declared.algorithm.Alg.TheVariants.{Sha256}
 use Rattle.bits_core.specs.OutboxContents.{holding}
-use Rattle.hmac_core.specs.Hmac.{HoldsText, hmac}
+use Rattle.hmac_core.specs.Hmac.{hmac}
 use Rattle.hmac_core.proofs.Lengths.{take-hmac256}
 use Rattle.vault_backup.specs.declared.limits.TheConstants.{MAGIC}
 use Rattle.vault_backup.specs.BackupForm.{KeptSlot, record_bytes, signed_bytes, tag_of}

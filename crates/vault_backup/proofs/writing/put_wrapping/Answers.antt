@@ -1,4 +1,4 @@
-use Rattle.std.proofs.Common.{◌≡◌, ◌-◌, ℕ, List, length, take, sym, ap, ◌∙◌, subst, arith}
+use Rattle.std.proofs.Common.{◌≡◌, ◌-◌, ℕ, List, length, take, sym, ap, ◌∙◌, subst}
 use Rattle.bits_core.specs.ByteList.{zeros, zero_padded}
 use Rattle.bits_core.proofs.ZeroPadding.{take_front}
 use Rattle.aes_core.specs.Key.{aes}
