@@ -18,3 +18,6 @@ pub use limits::{BACKUP_LEAST, BACKUP_MOST};
 pub use restore_fault::RestoreFault;
 pub use restoring::restore;
 pub use writing::backup;
+
+#[cfg(test)]
+mod tests;
