@@ -1,5 +1,5 @@
 //! The backups are those of Python's hmac and cryptography (checks/backup_rows.py).
-ghost use Rattle.std.specs.Prelude.{◌≡◌, ◌≤◌, ◌<◌};
+ghost use Rattle.std.specs.Prelude.{◌≡◌, ◌≤◌, ◌<◌, length};
 ghost use Rattle.vault_backup.specs.declared.limits.TheConstants.{BACKUP_MOST};
 
 use crate::{BACKUP_MOST, RestoreFault, backup, restore};
@@ -299,7 +299,9 @@ fn bytes_of(rt: &impl Abort, alloc: Global, row: &str) -> Result<Vec<u8>, AllocE
     Ok(bytes)
 }
 
-fn slot_at(rt: &impl Abort, number: u8) -> SlotId {
+fn slot_at(rt: &impl Abort, number: u8) -> SlotId
+    ensures { result ≡ number }
+{
     assert!(rt; number < 16);
     SlotId::new(number).unwrap()
 }
@@ -407,7 +409,8 @@ fn some_slots_are_not_kept(rt: HostRuntime) -> Result<(), Fail> {
     let mut vault = Vault::new(rt.alloc())?;
     let last = header(Kind::Kdf, Domain::Approved, u32::MAX);
     let twenty = parameter(Kind::Kdf, Domain::Approved, 20);
-    put(&rt, &mut vault, 9, &last, &twenty[..20]);
+    let text = &twenty[..20];
+    put(&rt, &mut vault, 9, &last, text);
     let stays = Header {
         export: false,
         ..jefe()
@@ -424,7 +427,7 @@ fn some_slots_are_not_kept(rt: HostRuntime) -> Result<(), Fail> {
     vault.link(slot_at(&rt, 1), slot_at(&rt, 9));
     assert_eq!(rt; restore(&mut vault, &KEK, &MAC, &bytes), Ok(2));
     holds(&rt, &vault, 2, &jefe(), b"Jefe");
-    holds(&rt, &vault, 9, &last, &twenty[..20]);
+    holds(&rt, &vault, 9, &last, text);
     assert_eq!(rt; vault.row(slot_at(&rt, 9)), 2);
     assert_eq!(rt; full_slots(&vault), 4);
     Ok(())
@@ -477,21 +480,34 @@ fn a_wrapped_part_of_no_parameter_is_refused(rt: HostRuntime) -> Result<(), Fail
     Ok(())
 }
 
+// Whether each bit of a byte that is turned is seen.
+fn turn_bits(rt: &impl Abort, vault: &mut Vault, bytes: &mut [u8], place: usize)
+    requires { place < length bytes.old }
+{
+    for bit in 0u8..8 {
+        bytes[place] ^= 1 << bit;
+        match restore(vault, &KEK, &MAC, bytes) {
+            Err(RestoreFault::Form) => {}
+            Err(RestoreFault::Tag) => {}
+            _ => assert!(rt; false, "bit {bit} of byte {place}"),
+        }
+        bytes[place] ^= 1 << bit;
+    }
+}
+
+// Whether each byte that is turned in a bit is seen, and each beginning of the bytes.
+fn spoil(rt: &impl Abort, vault: &mut Vault, bytes: &mut [u8]) {
+    for place in 0..bytes.len() {
+        turn_bits(rt, vault, bytes, place);
+        refuses(rt, vault, &bytes[..place], "cut", RestoreFault::Form);
+    }
+}
+
 #[test]
 fn each_bit_that_is_turned_is_seen(rt: HostRuntime) -> Result<(), Fail> {
     let mut vault = Vault::new(rt.alloc())?;
     let mut bytes = bytes_of(&rt, rt.alloc(), ONE_KEPT)?;
-    for place in 0usize..bytes.len() {
-        for bit in 0u8..8 {
-            bytes[place] ^= 1 << bit;
-            match restore(&mut vault, &KEK, &MAC, &bytes) {
-                Err(RestoreFault::Form | RestoreFault::Tag) => {}
-                _ => assert!(rt; false, "bit {bit} of byte {place}"),
-            }
-            bytes[place] ^= 1 << bit;
-        }
-        refuses(&rt, &mut vault, &bytes[..place], "cut", RestoreFault::Form);
-    }
+    spoil(&rt, &mut vault, &mut bytes);
     Ok(())
 }
 
