@@ -504,6 +504,7 @@ def tree(*before):
     o.ask("derive 4 5 mac keep 9 32 - -", "Ok Officer 1 0000 Z -")
     for each in before:
         o.ask(each)
+        o.ask("slot 5", "Ok Officer 0 0000 010301002000000000000009 -")
     o.ask("zeroisetree 3", "Ok Officer 0 0000 Z -")
     for slot in (3, 4, 5):
         o.ask(f"slot {slot}", "Ok Officer 0 0000 Z -")

@@ -85,6 +85,7 @@ def main(words):
     if words == ["--list"]:
         for name, of in RUNS.items():
             print(f"{name:28} {(of.__doc__ or '').splitlines()[0] if of.__doc__ else ''}".rstrip())
+        print(f"{UNREAD:28} Sessions, and words that are refused: no run reads it.")
         return 0
     files, count = written()
     if words == ["--check"]:

@@ -87,7 +87,8 @@ def with_out(changed):
 
 def failing():
     """The same with another OUT: its last bit turned, its first byte, and one of a text's."""
-    others = [line(*before[:-1], turned(before[-1]), out, *behind) for before, out, behind in rows() if before[0] not in ("open", "unwrap", "unwrappad")]
+    texts = [row for row in rows() if row[0][0] not in ("open", "unwrap", "unwrappad")]
+    others = [line(*before[:-1], turned(before[-1]), out, *behind) for before, out, behind in texts]
     return checked(with_out(turned) + with_out(lambda out: bytes([out[0] ^ 0x80]) + out[1:]) + others, False)
 
 

@@ -38,10 +38,9 @@ NO_FORMS = [
     ("digest",),
     ("digest", "image", "digest"),
     ("serve", *PARTS[:2]),
-    *(session(seed, 0) for seed in ("", "-", "-1", "+1", "00", "07", "0x7", "7 ", "1_0", 2**64, 10**20, "9" * 40, "seed")),
+    *(session(seed, 0) for seed in ("", "-", "-1", "+1", "00", "07", "0x7", "1_0", 2**64, 10**20, "9" * 40, "seed")),
     *(session(0, count) for count in ("", "-", "-1", "+1", "00", "01", "0x1", "1.", 100_001, 2**32, 2**64, "9" * 40, "count")),
 ]
-NO_FORMS = [words for words in NO_FORMS if " " not in "".join(words)]
 
 # Files that aren't there, or aren't of their form, with the status: image, digest and noise are looked at in this order.
 REFUSED = [
@@ -54,7 +53,8 @@ REFUSED = [
 ]
 # No image is looked at where the words are no form, and the largest seed and count are of it.
 NO_IMAGE = ("image_that_is_not_there", "digest", "noise")
-NO_FORMS += [session("00", 0, NO_IMAGE), session(0, 100_001, NO_IMAGE), ("operate", *NO_IMAGE, "more"), session(0, 100_001, ("image", "digest_empty", "noise"))]
+NO_FORMS += [session("00", 0, NO_IMAGE), session(0, 100_001, NO_IMAGE), ("operate", *NO_IMAGE, "more")]
+NO_FORMS += [session(0, 100_001, ("image", "digest_empty", "noise"))]
 LARGEST = session(LARGEST_SEED, 100_000, NO_IMAGE)
 
 

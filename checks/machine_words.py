@@ -5,7 +5,8 @@ import re
 
 import machine_functions as functions
 from machine import IMAGE_KEY, Machine, served
-from machine_lines import BAD_DIGEST, answered, digest_of
+from machine_lines import BAD_DIGEST, digest_of
+from machine_lines import operate as operate_on
 from machine_sessions import LARGEST_COUNT, LARGEST_SEED, summary
 from machine_vectors import report
 
@@ -53,7 +54,9 @@ def serve(words, files, stream):
 
 
 def operate(words, files, stream):
-    return answered(Machine(*parts(words, files)), stream)
+    parts(words, files)
+    image, digest_text, noise = (files[name] for name in words)
+    return operate_on(stream, image, digest_text, noise)
 
 
 def digest(words, files, stream):

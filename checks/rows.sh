@@ -1,6 +1,6 @@
 #!/usr/bin/env bash
-# Whether each table of expected values in the tests, the stored run of the program and the stored dialogues are what their scripts
-# compute: see rows.py, stored_run.py and dialogue.py.
+# Whether each table of expected values in the tests, the stored run of the program, the stored dialogues and the stored runs of lines
+# are what their scripts compute: see rows.py, stored_run.py, dialogue.py and line_runs.py.
 set -u
 cd "$(dirname "$0")/.." || exit 1
 if ! command -v python3 >/dev/null; then
@@ -12,7 +12,12 @@ if python3 -c 'import cryptography' 2>/dev/null; then
     python3 checks/manual_dialogue.py --check || exit 1
     python3 checks/manual_lines.py --check || exit 1
     python3 checks/dialogue.py --check || exit 1
+    python3 checks/line_runs.py --check || exit 1
 else
+<<<<<<< HEAD
     echo "rows: manual_dialogue.py, manual_lines.py and dialogue.py are skipped, since Python's cryptography isn't here"
+=======
+    echo "rows: manual_dialogue.py, dialogue.py and line_runs.py are skipped, since Python's cryptography isn't here"
+>>>>>>> 052a2c3e33b5b4316cbe34861da94fedf114c92c
 fi
 exec python3 checks/rows.py
