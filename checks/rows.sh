@@ -14,10 +14,6 @@ if python3 -c 'import cryptography' 2>/dev/null; then
     python3 checks/dialogue.py --check || exit 1
     python3 checks/line_runs.py --check || exit 1
 else
-<<<<<<< HEAD
-    echo "rows: manual_dialogue.py, manual_lines.py and dialogue.py are skipped, since Python's cryptography isn't here"
-=======
-    echo "rows: manual_dialogue.py, dialogue.py and line_runs.py are skipped, since Python's cryptography isn't here"
->>>>>>> 052a2c3e33b5b4316cbe34861da94fedf114c92c
+    echo "rows: manual_dialogue.py, manual_lines.py, dialogue.py and line_runs.py are skipped, since Python's cryptography isn't here"
 fi
 exec python3 checks/rows.py
