@@ -11,7 +11,7 @@ from cryptography.hazmat.primitives.cmac import CMAC
 import machine_functions as functions
 from machine_lines import BAD_LINE, BadLine, bad_line, is_comment, lines_of, need, some_bytes
 
-SOME_FAILED = 1
+ALL_PASSED, SOME_FAILED = 0, 1
 CMAC_BLOCK = 16
 # What stands for a refusal in place of the expected bytes.
 REFUSAL = None
@@ -160,10 +160,10 @@ def passes(line):
     return holds(*[reader(word) for reader, word in zip(readers, words)])
 
 
-def report(stream):
-    """The status and the report of the lines of an input."""
+def report(stream, ended=True):
+    """The status and the report of the lines of an input. Where it may go on, what stands behind the last LF is no line yet."""
     written, passed, checked = b"", 0, 0
-    for number, line in enumerate(lines_of(stream), 1):
+    for number, line in enumerate(lines_of(stream) if ended else stream.split(b"\n")[:-1], 1):
         try:
             result = passes(line)
         except BadLine:
@@ -173,7 +173,7 @@ def report(stream):
         checked += 1
         passed += result
         written += f"{number} {'pass' if result else 'fail'}\n".encode()
-    return SOME_FAILED if passed < checked else 0, written + f"{passed} of {checked}\n".encode()
+    return SOME_FAILED if passed < checked else ALL_PASSED, written + f"{passed} of {checked}\n".encode()
 
 
 def openssl_feedback(key, label, context, length):
