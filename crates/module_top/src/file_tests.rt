@@ -9,6 +9,20 @@ use std::test::Fail;
 /// The words that serve the files of `files_of`.
 pub const SERVE: [&str; 4] = ["serve", "image", "digest", "noise"];
 
+const OPERATE: [&str; 4] = ["operate", "image", "digest", "noise"];
+
+const SESSION: [&str; 6] = ["session", "7", "0", "image", "digest", "noise"];
+
+// The largest numbers that a session's words may spell, and no digest file.
+const LARGEST: [&str; 6] = [
+    "session",
+    "18446744073709551615",
+    "100000",
+    "image",
+    "none",
+    "noise",
+];
+
 // HMAC-SHA-256 of the bytes 616263 under the key of the bytes 00 to 1f, by Python's hmac.
 const SPELLED: [u8; 32] = [
     0xf0, 0x13, 0x37, 0x29, 0xc4, 0x16, 0x3d, 0xed, 0xe8, 0x1e, 0x21, 0xcd, 0x47, 0x83, 0x92, 0x56,
@@ -122,23 +136,13 @@ fn knows_no_other_words(rt: HostRuntime) -> Result<(), Fail> {
 
 #[test]
 fn looks_at_each_file_in_turn(rt: HostRuntime) -> Result<(), Fail> {
-    let operate = ["operate", "image", "digest", "noise"];
-    let session = ["session", "7", "0", "image", "digest", "noise"];
-    let largest = [
-        "session",
-        "18446744073709551615",
-        "100000",
-        "image",
-        "none",
-        "noise",
-    ];
     let rows: [(&[&str], &[u8], &[u64], u8); 15] = [
         (&SERVE, DIGEST, &[], 3),
-        (&operate, DIGEST, &[1], 8),
-        (&operate, b"", &[3], 11),
-        (&session, DIGEST, &[2], 8),
-        (&session, b"", &[3], 11),
-        (&largest, DIGEST, &[], 8),
+        (&OPERATE, DIGEST, &[1], 8),
+        (&OPERATE, b"", &[3], 11),
+        (&SESSION, DIGEST, &[2], 8),
+        (&SESSION, b"", &[3], 11),
+        (&LARGEST, DIGEST, &[], 8),
         (&SERVE, DIGEST, &[4], 3),
         (&SERVE, DIGEST, &[1], 8),
         (&SERVE, DIGEST, &[2], 8),
