@@ -3,3 +3,5 @@ pub mod Checking
 pub mod Counting
 pub mod Effects
 pub mod Laws
+pub mod ReplyStreams
+pub mod PairStreams

@@ -4,7 +4,10 @@
 mod beginning;
 mod checker;
 mod effects;
+mod head_bytes;
 mod laws;
+mod pairs;
+mod reply_faults;
 mod reply_form;
 mod request_facts;
 #[cfg(test)]
@@ -13,4 +16,5 @@ mod tests;
 mod transcript_rows;
 
 pub use checker::Checker;
+pub use pairs::PairFed;
 pub use laws::{entered_bytes_may_be_blanked, first_no_tells, walks_are_determined};
