@@ -5,3 +5,4 @@ pub mod Effects
 pub mod Laws
 pub mod ReplyStreams
 pub mod PairStreams
+pub mod PairSteps

@@ -4,6 +4,7 @@ ghost use Rattle.std.specs.Prelude.{◌≡◌, ◌≤◌, ◌-◌, ◌++◌, [],
 use std::marker::Model;
 
 // Up to 28 bytes. Contracts see those that came.
+#[derive(Drop)]
 pub struct HeadBytes {
     bytes: [u8; 28],
     count: usize,

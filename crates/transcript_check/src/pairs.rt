@@ -1,4 +1,15 @@
 // Bytes in any pieces, and the pairs of a transcript that they encode.
+ghost use Rattle.std.specs.Prelude.{◌≡◌, ◌↔◌, ◌+◌, ◌-◌, ◌^◌, ◌≤◌, ◌<◌, [], true, false, None, IfOk, IsTrue, MatchResult, length};
+ghost use Rattle.module_frames.specs.CommandFrames.{IsCommandFrame};
+ghost use Rattle.transcript_check.specs.ReplyStreams.{head_size, payload_length};
+ghost use Rattle.transcript_check.specs.PairStreams.{FeedsPair, HoldsPair, IsWholePair, cleared_pair, held_length, new_pair};
+ghost use Rattle.transcript_check.specs.PairSteps.{BreaksReply, Gathers, HoldsCommand, TakesCommand, TakesHead};
+
+use crate::head_bytes::HeadBytes;
+use crate::reply_faults::{head_size, read_whole, reply_fault};
+use module_frames::{Command, Fed, Frames, ReplyHead};
+use std::alloc::{AllocError, Global};
+use std::marker::Model;
 
 /// What `Pairs` answers to a piece.
 #[derive(Clone, Copy, Debug, PartialEq, Eq)]
@@ -10,4 +21,133 @@ pub enum PairFed {
     /// The bytes show a fault at this offset in the whole transcript: that of the wrong byte, or of the first byte of a length that is
     /// too large.
     BadFrame(u64),
+}
+
+/// Makes pairs of the bytes of a transcript, each command's frame followed by its reply's, that come in any pieces. Payloads are skipped and
+/// not kept. Contracts see the bytes held, how many of a payload came, and where in the transcript the pair begins.
+#[derive(Drop)]
+pub struct Pairs {
+    start: u64,
+    /// How long the commands before this pair's are together, and how many bytes of this one's came.
+    commands: u64,
+    taken: u64,
+    frames: Frames,
+    head: HeadBytes,
+    skipped: usize,
+    fault: Option<u64>,
+}
+
+impl Model for Pairs {
+    ghost use Rattle.transcript_check.specs.PairStreams.{HeldPair};
+
+    ghost Value = { HeldPair };
+
+    ghost use Rattle.transcript_check.specs.PairSteps.{pair_of, IsPairReader};
+
+    ghost view = { pair_of };
+
+    ghost invariant = { IsPairReader };
+}
+
+impl Pairs {
+    /// Holds nothing; a transcript begins.
+    pub fn new(alloc: Global) -> Result<Pairs, AllocError>
+        ensures { IfOk result (λ pairs. pairs ≡ new_pair 0 None) }
+    {
+        let frames = Frames::new(alloc)?;
+        Ok(Pairs {
+            start: 0,
+            commands: 0,
+            taken: 0,
+            frames,
+            head: HeadBytes::new(),
+            skipped: 0,
+            fault: None,
+        })
+    }
+
+    // Takes bytes of the command's frame.
+    fn take_command(&mut self, piece: &[u8]) -> Fed
+        requires no_fault { self.old.fault ≡ None }
+        requires short { self.old.start + held_length self.old + length piece.now ≤ 2 ^ 63 }
+        ensures { TakesCommand self.old piece.now result self.new }
+    {
+        if !self.head.bytes().is_empty() {
+            return Fed::Whole(0);
+        }
+        let answer = self.frames.feed(piece);
+        match answer {
+            Fed::More => {
+                self.taken += piece.len() as u64;
+            }
+            Fed::Whole(count) => {
+                self.taken += count as u64;
+            }
+            Fed::BadFrame(offset) => {
+                let place = self.start + (offset - self.commands);
+                self.taken = 0;
+                self.fault = Some(place);
+                return Fed::BadFrame(place);
+            }
+        }
+        answer
+    }
+
+    // Takes bytes of the reply's head, up to the size that those held tell, and says how many, or at which offset they show a fault.
+    fn gather(&mut self, piece: &[u8]) -> Result<usize, u64>
+        requires no_fault { self.old.fault ≡ None }
+        requires stands { HoldsCommand self.old }
+        requires short { self.old.start + held_length self.old + length piece.now ≤ 2 ^ 63 }
+        ensures { Gathers self.old piece.now result self.new }
+    {
+        let size = head_size(self.head.bytes());
+        let count = self.head.fill(size, piece);
+        let Some(within) = reply_fault(self.head.bytes()) else {
+            return Ok(count);
+        };
+        let place = self.start + self.taken + within;
+        self.commands += self.taken;
+        self.taken = 0;
+        self.frames.clear();
+        self.head.clear();
+        self.fault = Some(place);
+        Err(place)
+    }
+
+    // Takes bytes of the reply's head: in two steps, since the first 24 tell whether there are four more.
+    fn take_head(&mut self, piece: &[u8]) -> Result<usize, u64>
+        requires no_fault { self.old.fault ≡ None }
+        requires stands { HoldsCommand self.old }
+        requires short { self.old.start + held_length self.old + length piece.now ≤ 2 ^ 63 }
+        ensures { MatchResult result (λ count. TakesHead self.old piece.now count self.new) (λ offset. BreaksReply self.old piece.now offset self.new) }
+    {
+        let front = self.gather(piece)?;
+        let back = self.gather(&piece[front..])?;
+        Ok(front + back)
+    }
+
+    // Whether a whole head is held.
+    fn is_headed(&self) -> bool
+        ensures { IsTrue result ↔ (head_size self.now.head ≤ length self.now.head) }
+    {
+        head_size(self.head.bytes()) <= self.head.bytes().len()
+    }
+
+    // Skips bytes of the payload, and says how many.
+    fn skip_payload(&mut self, piece: &[u8]) -> usize
+        requires no_fault { self.old.fault ≡ None }
+        requires short { self.old.start + held_length self.old + length piece.now ≤ 2 ^ 63 }
+        ensures within { result ≤ length piece.now }
+        ensures held { self.new ≡ record self.old { skipped = self.old.skipped + result } }
+        ensures part { length self.old.head < head_size self.old.head → result ≡ 0 }
+        ensures all { head_size self.old.head ≤ length self.old.head → self.new.skipped < payload_length self.old.head → result ≡ length piece.now }
+    {
+        if !self.is_headed() {
+            return 0;
+        }
+        let missing = read_whole(self.head.bytes()).length as usize - self.skipped;
+        let taken = missing.min(piece.len());
+        self.skipped += taken;
+        taken
+    }
 }
