@@ -9,3 +9,4 @@ pub mod Blanking
 pub mod Indicators
 pub mod ReplyEncodings
 pub mod ReplyFaults
+pub mod HeldPairs

@@ -2,8 +2,10 @@
 use Rattle.std.specs.Prelude.{◌≡◌, ◌≤◌, ◌<◌, ◌+◌, ◌-◌, ◌^◌, min, ℕ, List, [], ◌++◌, length, take, Option, None, Some, Result, MatchResult}
 use Rattle.module_frames.specs.CommandFrames.{CommandFrame, IsCommandFrame}
 use Rattle.module_frames.specs.Fragments.{IsBrokenAt, IsComplete, IsIncomplete}
+use Rattle.module_frames.specs.ReplyHeads.{HasWidths, head_encoding}
 use Rattle.module_frames.specs.declared.frames.Fed.{Fed}
 use Rattle.module_frames.specs.declared.frames.Fed.TheVariants as fed
+use Rattle.module_frames.specs.declared.head.ReplyHead.{ReplyHead}
 use Rattle.transcript_check.specs.PairStreams.{HeldPair, new_pair}
 use Rattle.transcript_check.specs.ReplyStreams.{head_size, payload_length, reply_fault}
 use Rattle.transcript_check.specs.declared.pairs.Pairs.TheInside.{Inside}
@@ -13,7 +15,7 @@ pair_of r = record { start = r.start; command = r.frames.bytes; head = r.head; s
 
 pub record IsPairReader (r : Inside) : Type 0 where
   pub commands : r.commands ≡ r.frames.start
-  pub least : r.commands ≤ r.start
+  pub least : r.fault ≡ None → r.commands ≤ r.start
   pub taken : r.taken ≡ length r.frames.bytes
   pub short : r.start + (length r.frames.bytes + length r.head + r.skipped) ≤ 2 ^ 63
   pub sound : reply_fault r.head ≡ None
@@ -50,7 +52,8 @@ pub record BreaksReply (old : HeldPair) (piece : List ℕ) (offset : ℕ) (new :
 -- bytes of the piece were taken for the head, up to the size that those held tell
 abbrev pub Gathers : HeldPair → List ℕ → Result ℕ ℕ → HeldPair → Type 0
 Gathers old piece answer new = MatchResult answer
-    (λ count. (count ≡ min (head_size old.head - length old.head) (length piece)) × (new ≡ record old { head = old.head ++ take count piece }) × (reply_fault new.head ≡ None))
+    (λ count. (count ≡ min (head_size old.head - length old.head) (length piece)) × (new ≡ record old { head = old.head ++ take count piece }) × (reply_fault new.head ≡ None)
+        × (1 ≤ count → old.skipped ≡ 0))
     (λ offset. BreaksReply old piece offset new)
 
 -- bytes of the piece were taken for the head, all where it isn't whole then
@@ -60,3 +63,8 @@ pub record TakesHead (old : HeldPair) (piece : List ℕ) (count : ℕ) (new : He
   pub sound : reply_fault new.head ≡ None
   pub part : length new.head < head_size new.head → count ≡ length piece
   pub unskipped : 1 ≤ count → old.skipped ≡ 0
+
+-- a head that is the one held, and encoded by it
+pub record TellsHead (held : HeldPair) (reply : ReplyHead) : Type 0 where
+  pub widths : HasWidths reply
+  pub head : held.head ≡ head_encoding reply

@@ -2,8 +2,8 @@
 ghost use Rattle.std.specs.Prelude.{◌≡◌, ◌↔◌, ◌+◌, ◌-◌, ◌^◌, ◌≤◌, ◌<◌, [], true, false, None, IfOk, IsTrue, MatchResult, length};
 ghost use Rattle.module_frames.specs.CommandFrames.{IsCommandFrame};
 ghost use Rattle.transcript_check.specs.ReplyStreams.{head_size, payload_length};
-ghost use Rattle.transcript_check.specs.PairStreams.{FeedsPair, HoldsPair, IsWholePair, cleared_pair, held_length, new_pair};
-ghost use Rattle.transcript_check.specs.PairSteps.{BreaksReply, Gathers, HoldsCommand, TakesCommand, TakesHead};
+ghost use Rattle.transcript_check.specs.PairStreams.{FeedsPair, HoldsPair, cleared_pair, held_length, new_pair};
+ghost use Rattle.transcript_check.specs.PairSteps.{BreaksReply, Gathers, HoldsCommand, TakesCommand, TakesHead, TellsHead};
 
 use crate::head_bytes::HeadBytes;
 use crate::reply_faults::{head_size, read_whole, reply_fault};
@@ -110,6 +110,7 @@ impl Pairs {
         self.taken = 0;
         self.frames.clear();
         self.head.clear();
+        self.skipped = 0;
         self.fault = Some(place);
         Err(place)
     }
@@ -149,5 +150,83 @@ impl Pairs {
         let taken = missing.min(piece.len());
         self.skipped += taken;
         taken
+    }
+
+    // Whether a whole pair is held; where none is, the command's frame being whole, one may go on so.
+    fn is_whole(&self) -> bool
+        requires no_fault { self.now.fault ≡ None }
+        requires stands { HoldsCommand self.now }
+        ensures whole { result ≡ true → HoldsPair self.now }
+        ensures short { result ≡ false → head_size self.now.head ≤ length self.now.head → self.now.skipped < payload_length self.now.head }
+    {
+        if !self.is_headed() {
+            return false;
+        }
+        self.skipped == read_whole(self.head.bytes()).length as usize
+    }
+
+    /// Takes bytes from the front of the next piece of the transcript, up to the end of a pair.
+    /// Once it has answered `BadFrame` it holds nothing, and answers the same offset for good: a command's byte 0, 1 or 3 or its length is wrong,
+    /// or a reply's byte 0, 1, 3, 4 or 5 is none that a reply has there, or its payload's length is above 65,664.
+    /// Where a pair stands it takes nothing, and answers `Whole(0)`.
+    /// All pieces of a transcript together have at most 2^63 bytes.
+    pub fn feed(&mut self, piece: &[u8]) -> PairFed
+        requires { self.old.start + held_length self.old + length piece.now ≤ 2 ^ 63 }
+        ensures { FeedsPair self.old piece.now result self.new }
+    {
+        if let Some(offset) = self.fault {
+            return PairFed::BadFrame(offset);
+        }
+        let command = match self.take_command(piece) {
+            Fed::More => return PairFed::More,
+            Fed::BadFrame(offset) => return PairFed::BadFrame(offset),
+            Fed::Whole(count) => count,
+        };
+        let reply = &piece[command..];
+        let head = match self.take_head(reply) {
+            Ok(count) => count,
+            Err(offset) => return PairFed::BadFrame(offset),
+        };
+        let payload = self.skip_payload(&reply[head..]);
+        if self.is_whole() {
+            PairFed::Whole(command + head + payload)
+        } else {
+            PairFed::More
+        }
+    }
+
+    /// The command of the pair that stands.
+    pub fn command(&self) -> &Command
+        requires { HoldsPair self.now }
+        ensures { IsCommandFrame result.now self.now.command }
+    {
+        self.frames.command()
+    }
+
+    /// The head of the reply of the pair that stands.
+    pub fn head(&self) -> ReplyHead
+        requires { HoldsPair self.now }
+        ensures { TellsHead self.now result }
+    {
+        read_whole(self.head.bytes())
+    }
+
+    /// Forgets what is held, part of a pair or the one that stands. The offset of a fault stays.
+    pub fn clear(&mut self)
+        ensures { self.new ≡ cleared_pair self.old }
+    {
+        self.start += self.taken + self.head.bytes().len() as u64 + self.skipped as u64;
+        self.commands += self.taken;
+        self.taken = 0;
+        self.frames.clear();
+        self.head.clear();
+        self.skipped = 0;
+    }
+
+    /// Whether the transcript may end here: nothing of a pair is held, and no fault came.
+    pub fn at_boundary(&self) -> bool
+        ensures { IsTrue result ↔ ((held_length self.now ≡ 0) × (self.now.fault ≡ None)) }
+    {
+        self.taken == 0 && self.fault.is_none()
     }
 }

@@ -1,0 +1,7 @@
+use Rattle.std.proofs.Common.{◌≡◌, [], ap, arith, refl, length, subst, sym}
+use Rattle.module_frames.specs.Fragments.{Fragment}
+use Rattle.transcript_check.proofs.HeldPairs.{new_reader}
+use Rattle.transcript_check.proofs.pairs.Pairs.new.Goals as goal
+
+pub invariant_of-result : goal.invariant_of-result
+invariant_of-result c = rw (c.in_ok-frames.ensures.new, c.new-2.ensures) new_reader
