@@ -1,8 +1,8 @@
 -- What a reader of transcripts holds, and what it takes.
-use Rattle.std.proofs.Common.{◌≡◌, ◌≤◌, ◌<◌, ◌+◌, ◌-◌, ◌^◌, ◌++◌, ℕ, Bool, true, false, List, [], Option, None, Some, length, take, drop, inl, inr, refl, sym, ◌∙◌, ap, subst, arith, length-append, if◌then◌else◌, ◌∷◌}
+use Rattle.std.proofs.Common.{◌≡◌, ◌≤◌, ◌<◌, ◌+◌, ◌-◌, ◌^◌, ◌++◌, ℕ, Bool, true, false, not, List, [], Option, None, Some, length, take, drop, inl, inr, refl, sym, ◌∙◌, ap, subst, arith, length-append, if◌then◌else◌, ◌∷◌}
 use Rattle.std.specs.Prelude.{min, ◌==◌}
 use Rattle.std.proofs.lemmas.Bool.Decides.{nat_tests}
-use Rattle.std.specs.Option.{option_map}
+use Rattle.std.specs.Option.{is_some, option_map}
 use Rattle.std.proofs.lemmas.Bool.{cases_lt}
 use Rattle.std.proofs.lemmas.List.{append-nil, append_assoc, length-drop, length-take-le, nil_from_length, take-append-drop, take_all}
 use Rattle.std.proofs.Math.Seq.{take-add}
@@ -13,7 +13,7 @@ use Rattle.module_frames.specs.Streams.{first_fault}
 use Rattle.module_frames.specs.declared.frames.Fed.TheVariants as fed
 use Rattle.module_frames.specs.declared.head.ReplyHead.{ReplyHead}
 use Rattle.module_frames.proofs.Headers.{shown_fault}
-use Rattle.transcript_check.specs.PairStreams.{HeldPair, new_pair}
+use Rattle.transcript_check.specs.PairStreams.{HeldPair, held_length, new_pair}
 use Rattle.transcript_check.specs.PairSteps.{BreaksReply, Gathers, HoldsCommand, HoldsNoReply, IsPairReader, TakesCommand, TakesHead, pair_of}
 use Rattle.transcript_check.specs.ReplyStreams.{head_size, payload_length, reply_fault}
 use Rattle.transcript_check.specs.declared.pairs.Pairs.TheInside.{Inside}
@@ -250,3 +250,38 @@ broken_reader r frames start place gone reader is =
 
 pub none_of : (head seen : List ℕ) → seen ≡ head → (length seen == 0) ≡ true → length head ≡ 0
 none_of head seen same test = let none : length seen ≡ 0 = grind (arith, nat_tests, test) in omega (arith, none, ap length same)
+
+-- without a byte of a command nothing is held
+pub nothing_taken : (r : Inside) → IsPairReader r → r.taken ≡ 0 → held_length (pair_of r) ≡ 0
+nothing_taken r reader none =
+    let empty : length r.frames.bytes ≡ 0 = omega (arith, none, reader.taken) in
+    elim (cases_lt 0 (length r.head)) [
+      | inl some ↦ (let stands = reader.behind (omega (arith, some)) in absurd (omega (arith, empty, ap length stands.1.encoded)))
+      | inr nothing ↦ omega (arith, empty, nothing, reader.unskipped (omega (arith, nothing, head_range r.head)))
+    ]
+
+pub none_held : (fault : Option ℕ) (none : Bool) → is_some fault ≡ not none → (none ≡ true → fault ≡ None) × (fault ≡ None → none ≡ true)
+none_held None true e = (λ _. refl, λ _. refl)
+none_held None false e = cc
+none_held (Some offset) true e = cc
+none_held (Some offset) false e = (λ is. cc, λ is. cc)
+
+-- what was held is forgotten, and the next pair begins behind it
+pub cleared_reader : (r : Inside) (frames : Fragment) (start : ℕ) → frames ≡ cleared_fragment r.frames → IsPairReader r → start ≡ r.start + (length r.frames.bytes + length r.head + r.skipped)
+    → IsPairReader (record { start = start; commands = r.commands + r.taken; taken = 0; frames = frames; head = []; skipped = 0; fault = r.fault })
+cleared_reader r frames start gone reader is =
+    let bytes : frames.bytes ≡ [] = ap (λ (f : Fragment). f.bytes) gone in
+    let begins : frames.start ≡ r.frames.start + length r.frames.bytes = ap (λ (f : Fragment). f.start) gone in
+    record {
+      commands = omega (arith, begins, reader.commands, reader.taken);
+      least = λ fresh. omega (arith, is, reader.taken, reader.least fresh);
+      taken = sym (ap length bytes);
+      short = omega (arith, reader.short, ap length bytes, is);
+      sound = reply_fault-nil;
+      most = omega (arith, head_range []);
+      behind = λ some. absurd (omega (arith, some));
+      unskipped = λ _. refl;
+      skipped = λ whole. absurd (omega (arith, whole, head_range []));
+      faultless = λ fresh. ap (λ (f : Fragment). f.fault) gone ∙ reader.faultless fresh;
+      empty = λ offset broken. (bytes, refl);
+    }

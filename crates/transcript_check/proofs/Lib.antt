@@ -10,3 +10,4 @@ pub mod Indicators
 pub mod ReplyEncodings
 pub mod ReplyFaults
 pub mod HeldPairs
+pub mod PairFeeding

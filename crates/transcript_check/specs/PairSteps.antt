@@ -2,10 +2,8 @@
 use Rattle.std.specs.Prelude.{◌≡◌, ◌≤◌, ◌<◌, ◌+◌, ◌-◌, ◌^◌, min, ℕ, List, [], ◌++◌, length, take, Option, None, Some, Result, MatchResult}
 use Rattle.module_frames.specs.CommandFrames.{CommandFrame, IsCommandFrame}
 use Rattle.module_frames.specs.Fragments.{IsBrokenAt, IsComplete, IsIncomplete}
-use Rattle.module_frames.specs.ReplyHeads.{HasWidths, head_encoding}
 use Rattle.module_frames.specs.declared.frames.Fed.{Fed}
 use Rattle.module_frames.specs.declared.frames.Fed.TheVariants as fed
-use Rattle.module_frames.specs.declared.head.ReplyHead.{ReplyHead}
 use Rattle.transcript_check.specs.PairStreams.{HeldPair, new_pair}
 use Rattle.transcript_check.specs.ReplyStreams.{head_size, payload_length, reply_fault}
 use Rattle.transcript_check.specs.declared.pairs.Pairs.TheInside.{Inside}
@@ -63,8 +61,3 @@ pub record TakesHead (old : HeldPair) (piece : List ℕ) (count : ℕ) (new : He
   pub sound : reply_fault new.head ≡ None
   pub part : length new.head < head_size new.head → count ≡ length piece
   pub unskipped : 1 ≤ count → old.skipped ≡ 0
-
--- a head that is the one held, and encoded by it
-pub record TellsHead (held : HeldPair) (reply : ReplyHead) : Type 0 where
-  pub widths : HasWidths reply
-  pub head : held.head ≡ head_encoding reply

@@ -3,6 +3,7 @@ use Rattle.std.specs.Prelude.{◌≡◌, ◌≤◌, ◌+◌, ◌⊎◌, ℕ, Lis
 use Rattle.module_frames.specs.CommandFrames.{CommandFrame, IsCommandFrame, IsSendable, command_encoding}
 use Rattle.bits_core.specs.declared.limits.TheConstants.{LARGEST_PAYLOAD}
 use Rattle.module_frames.specs.ReplyHeads.{HasWidths, head_encoding}
+use Rattle.module_frames.specs.declared.head.ReplyHead.{ReplyHead}
 use Rattle.module_frames.specs.Streams.{first_fault}
 use Rattle.transcript_check.specs.ReplyStreams.{IsReply, reply_encoding, reply_fault}
 use Rattle.transcript_check.specs.Transcripts.{Pair}
@@ -55,13 +56,17 @@ pub record HasCome (held : HeldPair) (bytes : List ℕ) : Type 0 where
   pub came : bytes ≡ held.command ++ (held.head ++ payload)
   pub skipped : length payload ≡ held.skipped
 
--- a whole pair stands: the frame of a command, a reply's head, and as many bytes behind it as that tells
+-- a whole reply stands: its head, and as many bytes behind it as that tells
+pub record IsWholeReply (reply : ReplyHead) (held : HeldPair) : Type 0 where
+  pub widths : HasWidths reply
+  pub room : reply.length ≤ LARGEST_PAYLOAD
+  pub head : held.head ≡ head_encoding reply
+  pub payload : held.skipped ≡ reply.length
+
+-- a whole pair stands: the frame of a command, and behind it a whole reply
 pub record IsWholePair (pair : Pair) (held : HeldPair) : Type 0 where
   pub command : IsCommandFrame pair.command held.command
-  pub widths : HasWidths pair.reply
-  pub room : pair.reply.length ≤ LARGEST_PAYLOAD
-  pub head : held.head ≡ head_encoding pair.reply
-  pub payload : held.skipped ≡ pair.reply.length
+  pub reply : IsWholeReply pair.reply held
 
 abbrev pub HoldsPair : HeldPair → Type 0
 HoldsPair held = (pair : Pair) × IsWholePair pair held

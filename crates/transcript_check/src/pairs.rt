@@ -2,8 +2,8 @@
 ghost use Rattle.std.specs.Prelude.{◌≡◌, ◌↔◌, ◌+◌, ◌-◌, ◌^◌, ◌≤◌, ◌<◌, [], true, false, None, IfOk, IsTrue, MatchResult, length};
 ghost use Rattle.module_frames.specs.CommandFrames.{IsCommandFrame};
 ghost use Rattle.transcript_check.specs.ReplyStreams.{head_size, payload_length};
-ghost use Rattle.transcript_check.specs.PairStreams.{FeedsPair, HoldsPair, cleared_pair, held_length, new_pair};
-ghost use Rattle.transcript_check.specs.PairSteps.{BreaksReply, Gathers, HoldsCommand, TakesCommand, TakesHead, TellsHead};
+ghost use Rattle.transcript_check.specs.PairStreams.{FeedsPair, HoldsPair, IsWholeReply, cleared_pair, held_length, new_pair};
+ghost use Rattle.transcript_check.specs.PairSteps.{BreaksReply, Gathers, HoldsCommand, TakesCommand, TakesHead};
 
 use crate::head_bytes::HeadBytes;
 use crate::reply_faults::{head_size, read_whole, reply_fault};
@@ -157,7 +157,7 @@ impl Pairs {
         requires no_fault { self.now.fault ≡ None }
         requires stands { HoldsCommand self.now }
         ensures whole { result ≡ true → HoldsPair self.now }
-        ensures short { result ≡ false → head_size self.now.head ≤ length self.now.head → self.now.skipped < payload_length self.now.head }
+        ensures short { result ≡ false → length self.now.head + self.now.skipped < head_size self.now.head + payload_length self.now.head }
     {
         if !self.is_headed() {
             return false;
@@ -206,7 +206,7 @@ impl Pairs {
     /// The head of the reply of the pair that stands.
     pub fn head(&self) -> ReplyHead
         requires { HoldsPair self.now }
-        ensures { TellsHead self.now result }
+        ensures { IsWholeReply result self.now }
     {
         read_whole(self.head.bytes())
     }
