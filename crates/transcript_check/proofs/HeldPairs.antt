@@ -1,20 +1,19 @@
 -- What a reader of transcripts holds, and what it takes.
-use Rattle.std.proofs.Common.{◌≡◌, ◌≤◌, ◌<◌, ◌+◌, ◌-◌, ◌^◌, ◌++◌, ℕ, Bool, true, false, not, List, [], Option, None, Some, length, take, drop, inl, inr, refl, sym, ◌∙◌, ap, subst, arith, length-append, if◌then◌else◌, ◌∷◌}
+use Rattle.std.proofs.Common.{◌≡◌, ◌≤◌, ◌<◌, ◌+◌, ◌-◌, ◌^◌, ◌++◌, ℕ, Bool, true, false, not, List, [], Option, None, Some, length, take, drop, inl, inr, refl, sym, ◌∙◌, ap, arith, length-append, if◌then◌else◌, ◌∷◌}
 use Rattle.std.specs.Prelude.{min, ◌==◌}
 use Rattle.std.proofs.lemmas.Bool.Decides.{nat_tests}
 use Rattle.std.specs.Option.{is_some, option_map}
 use Rattle.std.proofs.lemmas.Bool.{cases_lt}
-use Rattle.std.proofs.lemmas.List.{append-nil, append_assoc, length-drop, length-take-le, nil_from_length, take-append-drop, take_all}
+use Rattle.std.proofs.lemmas.List.{append-nil, append_assoc, length-drop, length-take-le, nil_from_length, take-append-drop}
 use Rattle.std.proofs.Math.Seq.{take-add}
-use Rattle.module_frames.specs.CommandFrames.{CommandFrame, IsCommandFrame}
-use Rattle.module_frames.specs.Fragments.{Fragment, Feeds, IsBrokenAt, IsComplete, IsIncomplete, cleared_fragment, new_fragment}
+use Rattle.module_frames.specs.Fragments.{Fragment, Feeds, IsBrokenAt, cleared_fragment, new_fragment}
 use Rattle.module_frames.specs.ReplyHeads.{IsReplyHead}
 use Rattle.module_frames.specs.Streams.{first_fault}
 use Rattle.module_frames.specs.declared.frames.Fed.TheVariants as fed
 use Rattle.module_frames.specs.declared.head.ReplyHead.{ReplyHead}
 use Rattle.module_frames.proofs.Headers.{shown_fault}
-use Rattle.transcript_check.specs.PairStreams.{HeldPair, held_length, new_pair}
-use Rattle.transcript_check.specs.PairSteps.{BreaksReply, Gathers, HoldsCommand, HoldsNoReply, IsPairReader, TakesCommand, TakesHead, pair_of}
+use Rattle.transcript_check.specs.PairStreams.{HeldPair, held_length}
+use Rattle.transcript_check.specs.PairSteps.{HoldsCommand, HoldsNoReply, IsPairReader, TakesCommand, TakesHead, pair_of}
 use Rattle.transcript_check.specs.ReplyStreams.{head_size, payload_length, reply_fault}
 use Rattle.transcript_check.specs.declared.pairs.Pairs.TheInside.{Inside}
 use Rattle.transcript_check.proofs.ReplyEncodings.{head_range, head_size-append, payload_length-encoding}
@@ -76,8 +75,7 @@ command_fault r piece new offset reader fresh feeds =
 pub broken_command : (r : Inside) (piece : List ℕ) (new : Fragment) (offset : ℕ) → IsPairReader r → r.fault ≡ None → HoldsNoReply (pair_of r) → CommandFault r piece new offset
     → TakesCommand (pair_of r) piece (fed.BadFrame (r.start + (offset - r.commands))) (pair_of (record r { taken = 0; frames = new; fault = Some (r.start + (offset - r.commands)) }))
 broken_command r piece new offset reader fresh none fault =
-    let place : r.start + (offset - r.commands) ≡ r.start + fault.within = omega (arith, fault.place) in
-    (
+    let place : r.start + (offset - r.commands) ≡ r.start + fault.within = omega (arith, fault.place) in (
       none,
       rw (fault.gone, none.0, none.1) refl,
       record { fault = ap (option_map (λ n. r.start + n)) fault.fault ∙ ap (λ n. Some n) (sym place); unfinished = fault.broken.unfinished },
@@ -148,8 +146,7 @@ pub gathered_fault : (r : Inside) (piece head : List ℕ) (count within : ℕ) �
     → reply_fault head ≡ Some within → (reply_fault (r.head ++ piece) ≡ Some within) × (r.skipped ≡ 0)
 gathered_fault r piece head count within reader many is fault =
     let all : head ++ drop count piece ≡ r.head ++ piece =
-    ap (λ xs. xs ++ drop count piece) is ∙ append_assoc r.head (take count piece) (drop count piece) ∙ ap (λ xs. r.head ++ xs) (take-append-drop count piece) in
-    (
+    ap (λ xs. xs ++ drop count piece) is ∙ append_assoc r.head (take count piece) (drop count piece) ∙ ap (λ xs. r.head ++ xs) (take-append-drop count piece) in (
       sym (ap reply_fault all) ∙ fault_stays head (drop count piece) within fault,
       elim (cases_lt (length r.head) (head_size r.head)) [
         | inl part ↦ reader.unskipped part

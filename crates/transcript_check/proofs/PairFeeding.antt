@@ -1,21 +1,20 @@
 -- What a reader of transcripts answers to a piece.
-use Rattle.std.proofs.Common.{◌≡◌, ◌≤◌, ◌<◌, ◌+◌, ◌⊎◌, ◌++◌, ℕ, List, [], Option, None, Some, length, take, drop, inl, inr, refl, sym, ◌∙◌, ap, subst, arith, length-append}
+use Rattle.std.proofs.Common.{◌≡◌, ◌≤◌, ◌<◌, ◌+◌, ◌⊎◌, ◌++◌, ℕ, List, [], None, Some, length, take, drop, inl, inr, refl, sym, ◌∙◌, ap, subst, arith, length-append}
 use Rattle.std.proofs.lemmas.Bool.{cases_lt}
 use Rattle.std.proofs.lemmas.List.{append-nil, append_assoc, length-drop, length-take-le, nil_from_length, take-append-drop, take_all}
 use Rattle.std.proofs.Math.Seq.{take-add}
-use Rattle.module_frames.specs.CommandFrames.{CommandFrame, IsCommandFrame, IsSendable, command_encoding}
+use Rattle.module_frames.specs.CommandFrames.{CommandFrame, IsSendable, command_encoding}
 use Rattle.module_frames.specs.ReplyHeads.{IsReplyHead, head_encoding}
 use Rattle.module_frames.specs.declared.frames.Fed.TheVariants as command_fed
 use Rattle.module_frames.specs.declared.head.ReplyHead.{ReplyHead}
 use Rattle.module_frames.proofs.CommandEncodings.{first_fault-encoding}
 use Rattle.module_frames.proofs.Heads.{one_way}
 use Rattle.module_frames.proofs.Parsing.{no_prefix}
-use Rattle.transcript_check.specs.PairStreams.{BeginsNoPair, FeedsPair, HasCome, HeldPair, HoldsPair, IsBrokenPairAt, IsPartialPair, IsRecorded, IsWholeReply, ShowsNoFault, new_pair, pair_encoding}
+use Rattle.transcript_check.specs.PairStreams.{BeginsNoPair, FeedsPair, HasCome, HeldPair, HoldsPair, IsPartialPair, IsWholeReply, ShowsNoFault, new_pair}
 use Rattle.transcript_check.specs.PairSteps.{BreaksReply, HoldsCommand, TakesCommand, TakesHead}
 use Rattle.transcript_check.specs.ReplyStreams.{BeginsNoReply, head_size, payload_length, reply_encoding, reply_fault}
-use Rattle.transcript_check.specs.Transcripts.{Pair}
 use Rattle.transcript_check.specs.declared.pairs.PairFed.TheVariants as fed
-use Rattle.transcript_check.proofs.ReplyEncodings.{broken_begins_none, head_range, head_size-append, head_size-encoding, length-encoding, payload_length-encoding, short_begins_none, size_of}
+use Rattle.transcript_check.proofs.ReplyEncodings.{broken_begins_none, head_range, head_size-append, head_size-encoding, length-encoding, short_begins_none}
 use Rattle.transcript_check.proofs.ReplyFaults.{payload_length-append, reply_fault-append}
 
 -- behind a whole command the bytes are those of a reply: there is no pair where there is none
@@ -78,7 +77,7 @@ after_all {old} {mid} {late} {new} {piece} {command} {head} {payload} taken =
       skipped = ap (λ (p : HeldPair). p.skipped) taken.third ∙ ap (λ (p : HeldPair). p.skipped + payload) after ∙ ap (λ (p : HeldPair). p.skipped + payload) taken.first.1;
       within = omega (arith, taken.first.0, taken.second.within, taken.within, length-drop command piece, length-drop head (drop command piece));
       pieces = (let regroup : command + head + payload ≡ command + (head + payload) = omega arith in
-        ap (λ n. take n piece) regroup ∙ take-add command (head + payload) piece ∙ ap (λ xs. take command piece ++ xs) (take-add head payload (drop command piece)));
+          ap (λ n. take n piece) regroup ∙ take-add command (head + payload) piece ∙ ap (λ xs. take command piece ++ xs) (take-add head payload (drop command piece)));
       unreplied = taken.first.2;
       unskipped = λ some. sym (ap (λ (p : HeldPair). p.skipped) taken.first.1) ∙ taken.second.unskipped some;
     }
@@ -133,7 +132,7 @@ partial_reply head payload sound unskipped short = elim (cases_lt (length head) 
 
 -- a pair isn't whole yet
 pub fed_more : {old mid late new : HeldPair} {piece : List ℕ} {command head payload : ℕ} → old.fault ≡ None → TakenThrice old mid late new piece command head payload
-    → (length late.head < head_size late.head → payload ≡ 0) → (length new.head < head_size new.head → new.skipped ≡ 0)
+    → (length late.head < head_size late.head → payload ≡ 0) → (length old.head < head_size old.head → old.skipped ≡ 0)
     → (head_size late.head ≤ length late.head → new.skipped < payload_length late.head → payload ≡ length (drop head (drop command piece)))
     → length new.head + new.skipped < head_size new.head + payload_length new.head → FeedsPair old piece fed.More new
 fed_more {old} {mid} {late} {new} {piece} {command} {head} {payload} fresh taken part unskipped all short =
@@ -145,6 +144,14 @@ fed_more {old} {mid} {late} {new} {piece} {command} {head} {payload} fresh taken
           (let left : new.skipped < payload_length late.head = omega (arith, short, full, ap length same, ap head_size same, ap payload_length same) in
           omega (arith, all full left, length-drop head (drop command piece), length-drop command piece, taken.first.0, taken.second.within))
     ] in
+    let none : length new.head < head_size new.head → new.skipped ≡ 0 = λ less.
+    let here : payload ≡ 0 = part (omega (arith, less, ap length same, ap head_size same)) in
+    elim (cases_lt 0 head) [
+      | inl some ↦ omega (arith, after.skipped, here, after.unskipped (omega (arith, some)))
+      | inr nothing ↦
+          (let stays : new.head ≡ old.head = after.head ∙ ap (λ xs. old.head ++ xs) (zero_take head (drop command piece) (omega (arith, nothing))) ∙ append-nil old.head in
+          omega (arith, after.skipped, here, unskipped (omega (arith, less, ap length stays, ap head_size stays))))
+    ] in
     let stands : HoldsCommand mid = taken.first.3 in
     let kept : new.command ≡ mid.command = ap (λ (p : HeldPair). p.command) taken.third ∙ ap (λ (p : HeldPair). p.command) taken.second.after in
     record {
@@ -153,10 +160,9 @@ fed_more {old} {mid} {late} {new} {piece} {command} {head} {payload} fresh taken
       before_fault = λ _ bytes come.
           let took = came_all bytes after taken.within come in
           let everything : bytes ++ take (command + head + payload) piece ≡ bytes ++ piece = ap (λ xs. bytes ++ xs) (take_all (command + head + payload) piece (omega (arith, whole))) in
-          let reply = partial_reply new.head took.payload (ap reply_fault same ∙ taken.second.sound) (λ less. took.skipped ∙ unskipped less) (omega (arith, short, took.skipped)) in
+          let reply = partial_reply new.head took.payload (ap reply_fault same ∙ taken.second.sound) (λ less. took.skipped ∙ none less) (omega (arith, short, took.skipped)) in
           let encoded : bytes ++ piece ≡ command_encoding stands.0 ++ (new.head ++ took.payload) =
-          sym everything ∙ took.came ∙ ap (λ xs. xs ++ (new.head ++ took.payload)) (kept ∙ stands.1.encoded) in
-          (
+          sym everything ∙ took.came ∙ ap (λ xs. xs ++ (new.head ++ took.payload)) (kept ∙ stands.1.encoded) in (
             subst (λ xs. HasCome new xs) everything took,
             subst (λ xs. IsPartialPair xs) (sym encoded) (record {
               no_fault = no_fault_behind stands.0 (new.head ++ took.payload) stands.1.sendable reply.no_fault;
@@ -204,8 +210,7 @@ fed_broken {old} {mid} {new} {piece} {command} {offset} fresh took breaks =
           ∙ ap (λ xs. (old.command ++ take command piece) ++ ((old.head ++ drop command piece) ++ (xs ++ []))) empty
           ∙ ap (λ xs. (old.command ++ take command piece) ++ xs) (append-nil (old.head ++ drop command piece))
           ∙ ap (λ xs. xs ++ (old.head ++ drop command piece)) (sym commands ∙ stands.1.encoded)
-          ∙ ap (λ xs. command_encoding stands.0 ++ (xs ++ drop command piece)) (sym heads) in
-          (
+          ∙ ap (λ xs. command_encoding stands.0 ++ (xs ++ drop command piece)) (sym heads) in (
             breaks.after ∙ ap (λ n. new_pair n (Some offset)) starts,
             record {
               within = length (command_encoding stands.0) + breaks.within;

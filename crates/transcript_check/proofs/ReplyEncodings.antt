@@ -1,11 +1,11 @@
 -- What the bytes of a reply tell, and that they are read in one way.
-use Rattle.std.proofs.Common.{◌≡◌, ◌≢◌, ◌≤◌, ◌<◌, ◌+◌, ◌-◌, ◌^◌, ◌++◌, ℕ, Bool, true, false, not, List, [], ◌∷◌, Option, None, Some, length, take, drop, get_or, refl, sym, ◌∙◌, ap, arith, length-append, if◌then◌else◌}
+use Rattle.std.proofs.Common.{◌≡◌, ◌≤◌, ◌<◌, ◌+◌, ◌^◌, ◌++◌, ℕ, Bool, true, false, not, List, [], ◌∷◌, Option, None, Some, length, refl, sym, ◌∙◌, ap, arith, length-append, if◌then◌else◌}
 use Rattle.std.specs.Prelude.{nat_lt, ◌==◌, ◌&&◌}
 use Rattle.std.specs.Option.{is_none}
-use Rattle.std.specs.Int.{from_be_bytes, to_be_bytes, w16, w32}
+use Rattle.std.specs.Int.{from_be_bytes, to_be_bytes, w32}
 use Rattle.std.proofs.lemmas.Bool.Decides.{nat_tests}
-use Rattle.std.proofs.lemmas.List.{append_assoc, length-drop, length-take-le, take_at}
-use Rattle.std.proofs.lemmas.Nat.{be_bytes_2, be_bytes_4, from_be_bytes-to_be_bytes_4}
+use Rattle.std.proofs.lemmas.List.{append_assoc}
+use Rattle.std.proofs.lemmas.Nat.{from_be_bytes-to_be_bytes_4}
 use Rattle.bits_core.specs.declared.limits.TheConstants.{LARGEST_PAYLOAD}
 use Rattle.service_table.specs.Numbers.{state_number, state_numbered, status_number, status_numbered}
 use Rattle.service_table.specs.declared.state.State.{State}
@@ -13,10 +13,10 @@ use Rattle.service_table.specs.declared.state.State.TheVariants as state
 use Rattle.service_table.specs.declared.status.Status.{Status}
 use Rattle.service_table.specs.declared.status.Status.TheVariants as status
 use Rattle.module_frames.specs.CommandFrames.{sequence_bytes, version_of}
-use Rattle.module_frames.specs.ReplyHeads.{HasWidths, head_encoding, indicated, indicator}
+use Rattle.module_frames.specs.ReplyHeads.{head_encoding, indicated, indicator}
 use Rattle.module_frames.specs.declared.head.ReplyHead.{ReplyHead}
 use Rattle.module_frames.proofs.Heads.{fields_of}
-use Rattle.transcript_check.specs.ReplyStreams.{BeginsNoReply, IsReply, head_size, has_long_payload, payload_bytes, payload_length, reply_encoding, reply_fault}
+use Rattle.transcript_check.specs.ReplyStreams.{BeginsNoReply, head_size, payload_bytes, payload_length, reply_fault}
 
 -- numbers tell what they are of
 has_status : (s : Status) → is_none (status_numbered (status_number s)) ≡ false

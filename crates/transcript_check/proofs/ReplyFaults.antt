@@ -1,5 +1,5 @@
 -- The faults of replies: that they stay, and that whole bytes without one encode a head.
-use Rattle.std.proofs.Common.{◌≡◌, ◌≤◌, ◌<◌, ◌+◌, ◌^◌, ◌++◌, ℕ, Bool, true, false, not, List, [], ◌∷◌, Option, None, Some, length, take, drop, get_or, refl, sym, ◌∙◌, ap, arith, if◌then◌else◌}
+use Rattle.std.proofs.Common.{◌≡◌, ◌≤◌, ◌++◌, ℕ, Bool, true, false, not, List, [], ◌∷◌, Option, None, Some, length, take, drop, get_or, refl, sym, ◌∙◌, ap, arith, if◌then◌else◌}
 use Rattle.std.specs.Prelude.{nat_lt, ◌==◌, ◌&&◌}
 use Rattle.std.specs.Option.{is_none}
 use Rattle.std.specs.Int.{from_be_bytes, to_be_bytes, w16, w32}
@@ -10,10 +10,8 @@ use Rattle.bits_core.specs.ByteList.{IsBytes}
 use Rattle.bits_core.proofs.Bytes.{IsBytes-drop, IsBytes-take}
 use Rattle.bits_core.specs.declared.limits.TheConstants.{LARGEST_PAYLOAD}
 use Rattle.service_table.specs.Numbers.{state_numbered, status_numbered}
-use Rattle.service_table.specs.declared.state.State.{State}
-use Rattle.service_table.specs.declared.status.Status.{Status}
 use Rattle.module_frames.specs.CommandFrames.{sequence_bytes, version_of}
-use Rattle.module_frames.specs.ReplyHeads.{BeginsNoHead, head_encoding, indicated}
+use Rattle.module_frames.specs.ReplyHeads.{BeginsNoHead, indicated}
 use Rattle.module_frames.specs.declared.head.ReplyHead.{ReplyHead}
 use Rattle.module_frames.proofs.Heads.{Fields, encoded_by, indicator_found, state_found, status_found}
 use Rattle.transcript_check.proofs.ReplyEncodings.{head_range}

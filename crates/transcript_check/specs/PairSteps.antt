@@ -1,5 +1,5 @@
 -- How a reader of transcripts holds a pair, and takes it in steps: the command's frame, the reply's head, its payload.
-use Rattle.std.specs.Prelude.{◌≡◌, ◌≤◌, ◌<◌, ◌+◌, ◌-◌, ◌^◌, min, ℕ, List, [], ◌++◌, length, take, Option, None, Some, Result, MatchResult}
+use Rattle.std.specs.Prelude.{◌≡◌, ◌≤◌, ◌<◌, ◌+◌, ◌-◌, ◌^◌, min, ℕ, List, [], ◌++◌, length, take, None, Some, Result, MatchResult}
 use Rattle.module_frames.specs.CommandFrames.{CommandFrame, IsCommandFrame}
 use Rattle.module_frames.specs.Fragments.{IsBrokenAt, IsComplete, IsIncomplete}
 use Rattle.module_frames.specs.declared.frames.Fed.{Fed}
@@ -51,7 +51,7 @@ pub record BreaksReply (old : HeldPair) (piece : List ℕ) (offset : ℕ) (new :
 abbrev pub Gathers : HeldPair → List ℕ → Result ℕ ℕ → HeldPair → Type 0
 Gathers old piece answer new = MatchResult answer
     (λ count. (count ≡ min (head_size old.head - length old.head) (length piece)) × (new ≡ record old { head = old.head ++ take count piece }) × (reply_fault new.head ≡ None)
-        × (1 ≤ count → old.skipped ≡ 0))
+    × (1 ≤ count → old.skipped ≡ 0))
     (λ offset. BreaksReply old piece offset new)
 
 -- bytes of the piece were taken for the head, all where it isn't whole then

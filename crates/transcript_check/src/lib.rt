@@ -16,5 +16,5 @@ mod tests;
 mod transcript_rows;
 
 pub use checker::Checker;
-pub use pairs::{PairFed, Pairs};
 pub use laws::{entered_bytes_may_be_blanked, first_no_tells, walks_are_determined};
+pub use pairs::{PairFed, Pairs};

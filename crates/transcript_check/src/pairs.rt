@@ -159,10 +159,11 @@ impl Pairs {
         ensures whole { result ≡ true → HoldsPair self.now }
         ensures short { result ≡ false → length self.now.head + self.now.skipped < head_size self.now.head + payload_length self.now.head }
     {
-        if !self.is_headed() {
+        let head = self.head.bytes();
+        if head.len() < head_size(head) {
             return false;
         }
-        self.skipped == read_whole(self.head.bytes()).length as usize
+        self.skipped == read_whole(head).length as usize
     }
 
     /// Takes bytes from the front of the next piece of the transcript, up to the end of a pair.

@@ -1,5 +1,3 @@
-use Rattle.std.proofs.Common.{◌≡◌, Bool, true, false, Option, None, ℕ, sym, ap, ◌∙◌}
-use Rattle.transcript_check.specs.PairStreams.{HeldPair}
 use Rattle.transcript_check.proofs.HeldPairs.{none_held, nothing_taken}
 use Rattle.transcript_check.proofs.pairs.Pairs.at_boundary.Goals as goal
 

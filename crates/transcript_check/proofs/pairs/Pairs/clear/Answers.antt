@@ -1,4 +1,4 @@
-use Rattle.std.proofs.Common.{◌≡◌, length, ap, arith}
+use Rattle.std.proofs.Common.{length, ap, arith}
 use Rattle.transcript_check.proofs.HeldPairs.{cleared_reader}
 use Rattle.transcript_check.proofs.pairs.Pairs.clear.Goals as goal
 

@@ -1,8 +1,7 @@
-use Rattle.std.proofs.Common.{◌≡◌, ◌+◌, ◌-◌, ◌≤◌, ◌^◌, ℕ, None, Some, length, ap, arith, refl, sym, ◌∙◌}
+use Rattle.std.proofs.Common.{◌≡◌, ◌-◌, length, ap, arith, refl, sym, ◌∙◌}
 use Rattle.std.specs.Prelude.{min}
 use Rattle.module_frames.specs.Fragments.{Fragment}
 use Rattle.transcript_check.specs.PairStreams.{HeldPair}
-use Rattle.transcript_check.specs.PairSteps.{HoldsCommand}
 use Rattle.transcript_check.specs.ReplyStreams.{head_size, reply_fault}
 use Rattle.transcript_check.proofs.HeldPairs.{broken_reader, gathered_fault, gathered_reader}
 use Rattle.transcript_check.proofs.pairs.Pairs.gather.Goals as goal
@@ -15,7 +14,7 @@ invariant_of-self c =
     let many : c.fill-count.result ≡ min (head_size c.self.inside.head - length c.self.inside.head) (length c.args.piece.now) =
     c.fill-count.ensures.taken ∙ ap (λ n. min (n - length c.self.inside.head) (length c.args.piece.now)) (c.head_size-size.ensures.size ∙ ap head_size c.bytes.ensures) in
     gathered_reader c.self.inside c.args.piece.now c.fill-count.new.self c.fill-count.result c.self.invariant fresh stands short many c.fill-count.ensures.held
-        (sym (ap reply_fault c.bytes-2.ensures) ∙ sym c.reply_fault.ensures.offset ∙ c.in_default.is)
+    (sym (ap reply_fault c.bytes-2.ensures) ∙ sym c.reply_fault.ensures.offset ∙ c.in_default.is)
 
 pub invariant_of-self-2 : goal.invariant_of-self-2
 invariant_of-self-2 c = rw c.clear-2.ensures (broken_reader c.self.inside c.clear.new.self _ _ c.clear.ensures.cleared c.self.invariant refl)

@@ -1,5 +1,3 @@
-use Rattle.std.proofs.Common.{◌≡◌, [], ap, arith, refl, length, subst, sym}
-use Rattle.module_frames.specs.Fragments.{Fragment}
 use Rattle.transcript_check.proofs.HeldPairs.{new_reader}
 use Rattle.transcript_check.proofs.pairs.Pairs.new.Goals as goal
 

@@ -1,6 +1,5 @@
-use Rattle.std.proofs.Common.{◌≡◌, ◌+◌, ◌-◌, ◌≤◌, ℕ, length, ap, arith, refl, sym, ◌∙◌}
-use Rattle.transcript_check.specs.PairStreams.{HeldPair}
-use Rattle.transcript_check.specs.ReplyStreams.{head_size, payload_length}
+use Rattle.std.proofs.Common.{◌≡◌, ap, arith, sym, ◌∙◌}
+use Rattle.transcript_check.specs.ReplyStreams.{payload_length}
 use Rattle.transcript_check.proofs.HeldPairs.{skipped_reader, told_length}
 use Rattle.transcript_check.proofs.pairs.Pairs.skip_payload.Goals as goal
 
@@ -16,7 +15,7 @@ invariant_of-self c =
     let short = rw (← c.self.view_is) at c.requires.short in
     let told : payload_length c.self.inside.head ≡ c.read_whole.result.length = sym (ap payload_length c.bytes.ensures) ∙ told_length c.read_whole.result c.bytes.result.now c.read_whole.ensures in
     skipped_reader c.self.inside c.args.piece.now c.min-taken.result c.self.invariant short (omega (arith, c.min-taken.ensures)) whole
-        (omega (arith, c.min-taken.ensures, c.self.invariant.skipped whole, told))
+    (omega (arith, c.min-taken.ensures, c.self.invariant.skipped whole, told))
 
 pub returns-clause-all : goal.returns-clause-all
 returns-clause-all c whole' part' =

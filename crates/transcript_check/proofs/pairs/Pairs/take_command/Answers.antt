@@ -1,6 +1,4 @@
-use Rattle.std.proofs.Common.{◌≡◌, ◌+◌, ◌-◌, ◌≤◌, ℕ, true, length, ap, arith, refl, sym, ◌∙◌}
-use Rattle.std.specs.Prelude.{◌==◌}
-use Rattle.std.proofs.lemmas.Bool.Decides.{nat_tests}
+use Rattle.std.proofs.Common.{◌+◌, length, ap, arith, sym, ◌∙◌}
 use Rattle.transcript_check.specs.PairStreams.{HeldPair}
 use Rattle.transcript_check.proofs.HeldPairs.{broken_command, command_fault, more_command, no_reply, none_of, whole_command}
 use Rattle.transcript_check.proofs.pairs.Pairs.take_command.Goals as goal

@@ -1,4 +1,3 @@
-use Rattle.std.proofs.Common.{ap, refl, sym, ◌∙◌}
 use Rattle.std.proofs.lemmas.List.{take_rest}
 use Rattle.transcript_check.proofs.HeldPairs.{took_head}
 use Rattle.transcript_check.proofs.pairs.Pairs.take_head.Goals as goal
