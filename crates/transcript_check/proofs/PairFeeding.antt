@@ -10,7 +10,7 @@ use Rattle.module_frames.specs.declared.head.ReplyHead.{ReplyHead}
 use Rattle.module_frames.proofs.CommandEncodings.{first_fault-encoding}
 use Rattle.module_frames.proofs.Heads.{one_way}
 use Rattle.module_frames.proofs.Parsing.{no_prefix}
-use Rattle.transcript_check.specs.PairStreams.{BeginsNoPair, FeedsPair, HasCome, HeldPair, HoldsPair, IsPartialPair, IsWholeReply, ShowsNoFault, new_pair}
+use Rattle.transcript_check.specs.PairStreams.{held_length, BeginsNoPair, FeedsPair, HasCome, HeldPair, HoldsPair, IsPartialPair, IsWholeReply, ShowsNoFault, new_pair}
 use Rattle.transcript_check.specs.PairSteps.{BreaksReply, HoldsCommand, TakesCommand, TakesHead}
 use Rattle.transcript_check.specs.ReplyStreams.{BeginsNoReply, head_size, payload_length, reply_encoding, reply_fault}
 use Rattle.transcript_check.specs.declared.pairs.PairFed.TheVariants as fed
@@ -61,6 +61,8 @@ record IsAfter (old new : HeldPair) (piece : List ℕ) (n h p : ℕ) : Type 0 wh
   command : new.command ≡ old.command ++ take n piece
   head : new.head ≡ old.head ++ take h (drop n piece)
   skipped : new.skipped ≡ old.skipped + p
+  long : length new.command ≡ length old.command + n
+  longer : length new.head ≡ length old.head + h
   within : n + h + p ≤ length piece
   pieces : take (n + h + p) piece ≡ take n piece ++ (take h (drop n piece) ++ take p (drop h (drop n piece)))
   unreplied : 1 ≤ n → (old.head ≡ []) × (old.skipped ≡ 0)
@@ -69,12 +71,16 @@ record IsAfter (old new : HeldPair) (piece : List ℕ) (n h p : ℕ) : Type 0 wh
 after_all : {old mid late new : HeldPair} {piece : List ℕ} {command head payload : ℕ} → TakenThrice old mid late new piece command head payload → IsAfter old new piece command head payload
 after_all {old} {mid} {late} {new} {piece} {command} {head} {payload} taken =
     let after = taken.second.after in
+    let commands : new.command ≡ old.command ++ take command piece = ap (λ (p : HeldPair). p.command) taken.third ∙ ap (λ (p : HeldPair). p.command) after ∙ ap (λ (p : HeldPair). p.command) taken.first.1 in
+    let heads : new.head ≡ old.head ++ take head (drop command piece) = ap (λ (p : HeldPair). p.head) taken.third ∙ ap (λ (p : HeldPair). p.head) after ∙ ap (λ (p : HeldPair). p.head ++ take head (drop command piece)) taken.first.1 in
     record {
       start = ap (λ (p : HeldPair). p.start) taken.third ∙ ap (λ (p : HeldPair). p.start) after ∙ ap (λ (p : HeldPair). p.start) taken.first.1;
       fault = ap (λ (p : HeldPair). p.fault) taken.third ∙ ap (λ (p : HeldPair). p.fault) after ∙ ap (λ (p : HeldPair). p.fault) taken.first.1;
-      command = ap (λ (p : HeldPair). p.command) taken.third ∙ ap (λ (p : HeldPair). p.command) after ∙ ap (λ (p : HeldPair). p.command) taken.first.1;
-      head = ap (λ (p : HeldPair). p.head) taken.third ∙ ap (λ (p : HeldPair). p.head) after ∙ ap (λ (p : HeldPair). p.head ++ take head (drop command piece)) taken.first.1;
+      command = commands;
+      head = heads;
       skipped = ap (λ (p : HeldPair). p.skipped) taken.third ∙ ap (λ (p : HeldPair). p.skipped + payload) after ∙ ap (λ (p : HeldPair). p.skipped + payload) taken.first.1;
+      long = ap length commands ∙ length-append old.command (take command piece) ∙ ap (λ n. length old.command + n) (length-take-le command piece taken.first.0);
+      longer = ap length heads ∙ length-append old.head (take head (drop command piece)) ∙ ap (λ n. length old.head + n) (length-take-le head (drop command piece) taken.second.within);
       within = omega (arith, taken.first.0, taken.second.within, taken.within, length-drop command piece, length-drop head (drop command piece));
       pieces = (let regroup : command + head + payload ≡ command + (head + payload) = omega arith in
           ap (λ n. take n piece) regroup ∙ take-add command (head + payload) piece ∙ ap (λ xs. take command piece ++ xs) (take-add head payload (drop command piece)));
@@ -157,6 +163,8 @@ fed_more {old} {mid} {late} {new} {piece} {command} {head} {payload} fresh taken
     record {
       start = after.start;
       told = after.fault ∙ fresh;
+      place = omega (arith, after.start, after.long, after.longer, after.skipped, after.within);
+      stands = λ count e. cc;
       before_fault = λ _ bytes come.
           let took = came_all bytes after taken.within come in
           let everything : bytes ++ take (command + head + payload) piece ≡ bytes ++ piece = ap (λ xs. bytes ++ xs) (take_all (command + head + payload) piece (omega (arith, whole))) in
@@ -180,6 +188,8 @@ fed_whole {old} {mid} {late} {new} {piece} {command} {head} {payload} fresh take
     record {
       start = after.start;
       told = after.fault ∙ fresh;
+      place = omega (arith, after.start, after.long, after.longer, after.skipped, after.within);
+      stands = λ _ _. stands;
       before_fault = λ _ bytes come. (after.within, came_all bytes after taken.within come, stands);
       after_fault = λ offset broken. let wrong : None ≡ Some offset = sym fresh ∙ broken in cc;
     }
@@ -196,6 +206,8 @@ fed_broken {old} {mid} {new} {piece} {command} {offset} fresh took breaks =
     record {
       start = ap (λ (p : HeldPair). p.start) breaks.after ∙ starts;
       told = ap (λ (p : HeldPair). p.fault) breaks.after;
+      place = omega (arith, starts, ap (λ (p : HeldPair). p.start + held_length p) breaks.after);
+      stands = λ count e. cc;
       before_fault = λ _ bytes come.
           let empty = empty_payload old bytes come none in
           let one : (take command piece ≡ []) ⊎ ((old.head ≡ []) × (come.payload ≡ [])) = elim (cases_lt 0 command) [

@@ -98,10 +98,12 @@ told_fault fed.More = None
 told_fault (fed.Whole count) = None
 told_fault (fed.BadFrame offset) = Some offset
 
--- what is answered to a piece, and what is held then: after a fault its offset is answered for good
+-- What is answered to a piece, and what is held then: no more than what was and the piece. After a fault its offset is answered for good.
 pub record FeedsPair (old : HeldPair) (piece : List ℕ) (answer : PairFed) (new : HeldPair) : Type 0 where
   pub start : new.start ≡ old.start
   pub told : new.fault ≡ told_fault answer
+  pub place : new.start + held_length new ≤ old.start + held_length old + length piece
+  pub stands : (count : ℕ) → answer ≡ fed.Whole count → HoldsPair new
   pub before_fault : old.fault ≡ None → (bytes : List ℕ) → HasCome old bytes → FeedsPiece old bytes piece answer new
   pub after_fault : (offset : ℕ) → old.fault ≡ Some offset → (answer ≡ fed.BadFrame offset) × (new ≡ old)
 
