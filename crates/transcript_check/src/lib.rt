@@ -4,8 +4,12 @@
 mod beginning;
 mod checker;
 mod effects;
+#[cfg(test)]
+mod fault_rows;
 mod head_bytes;
 mod laws;
+#[cfg(test)]
+mod pair_tests;
 mod pairs;
 mod reply_faults;
 mod reply_form;
