@@ -7,3 +7,7 @@ pub mod SlotBlocks
 pub mod Walks
 pub mod Blanking
 pub mod Indicators
+pub mod ReplyEncodings
+pub mod ReplyFaults
+pub mod HeldPairs
+pub mod PairFeeding

@@ -3,3 +3,6 @@ pub mod Checking
 pub mod Counting
 pub mod Effects
 pub mod Laws
+pub mod ReplyStreams
+pub mod PairStreams
+pub mod PairSteps

@@ -14,7 +14,7 @@ fn number(bytes: &[u8]) -> u32 {
     }
 }
 
-// Reads the command's frame at the front, with its body blanked where that is wanted, and answers what stands behind it.
+// Reads the command's frame at the front, and answers what stands behind it.
 fn take_command<'a>(bytes: &'a [u8], command: &mut Command) -> Option<&'a [u8]> {
     let service = *bytes.get(2)?;
     let length = number(bytes.get(4..8)?) as usize;
@@ -158,6 +158,53 @@ fn misjudged(
         rest = behind;
     }
     (200, 0)
+}
+
+// The same with zeros where the command brings bytes of a parameter or its check value.
+fn take_blanked<'a>(bytes: &'a [u8], command: &mut Command) -> Option<&'a [u8]> {
+    let behind = take_command(bytes, command)?;
+    let service = command.service();
+    let length = command.body().len().min(64);
+    if service == 0x09 || service == 0x0a {
+        let zeros = [0; 64];
+        match command.sequence() {
+            Some(number) => command.set_numbered(service, number, &zeros[..length]),
+            None => command.set(service, &zeros[..length]),
+        }
+    }
+    Some(behind)
+}
+
+// How many pairs of a transcript are lawful with its entered bytes blanked, and how many there are.
+fn blanked(bytes: &[u8], command: &mut Command) -> (u32, u32) {
+    let mut walk = Checker::new();
+    let mut rest = bytes;
+    let mut lawful = 0u32;
+    for pair in 0..200u32 {
+        let Some(reply) = take_blanked(rest, command) else {
+            return (lawful, pair);
+        };
+        let Some((head, behind)) = take_head(reply) else {
+            return (lawful, pair);
+        };
+        if let Some(told) = reply_head(head) {
+            if walk.step(command, &told) {
+                lawful = lawful.wrapping_add(1);
+            }
+        }
+        rest = behind;
+    }
+    (lawful, 200)
+}
+
+#[test]
+fn entered_bytes_may_be_blanked(rt: HostRuntime) -> Result<(), Fail> {
+    let mut command = Command::new(rt.alloc())?;
+    assert_eq!(rt; blanked(&DIALOGUE, &mut command), (38, 38));
+    assert_eq!(rt; blanked(&KEYS, &mut command), (55, 55));
+    assert_eq!(rt; blanked(&NUMBERED, &mut command), (22, 22));
+    assert_eq!(rt; blanked(&PERIODS, &mut command), (45, 45));
+    Ok(())
 }
 
 #[test]
