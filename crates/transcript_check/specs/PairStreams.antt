@@ -1,6 +1,7 @@
 -- The bytes of a transcript: each command's frame followed by its reply's. What a reader of them holds, and what it answers to a piece.
 use Rattle.std.specs.Prelude.{◌≡◌, ◌≤◌, ◌+◌, ◌⊎◌, ℕ, List, [], ◌++◌, length, take, Option, None, Some}
 use Rattle.module_frames.specs.CommandFrames.{CommandFrame, IsCommandFrame, IsSendable, command_encoding}
+use Rattle.std.specs.List.{AllByRecursion, flat_map}
 use Rattle.bits_core.specs.declared.limits.TheConstants.{LARGEST_PAYLOAD}
 use Rattle.module_frames.specs.ReplyHeads.{HasWidths, head_encoding}
 use Rattle.module_frames.specs.declared.head.ReplyHead.{ReplyHead}
@@ -110,3 +111,14 @@ pub record FeedsPair (old : HeldPair) (piece : List ℕ) (answer : PairFed) (new
 -- nothing is held, and the next pair begins behind what was; a fault that came stays
 abbrev pub cleared_pair : HeldPair → HeldPair
 cleared_pair old = new_pair (old.start + held_length old) old.fault
+
+-- a pair as it stands in a transcript, with the payload of its reply
+pub record Recorded : Type 0 where
+  pub pair : Pair
+  pub payload : List ℕ
+
+-- the bytes are the frames of these pairs, and then a remainder with which no whole pair begins
+pub record ParsesIntoPairs (bytes : List ℕ) (pairs : List Recorded) (remainder : List ℕ) : Type 0 where
+  pub encoded : bytes ≡ flat_map (λ (r : Recorded). pair_encoding r.pair r.payload) pairs ++ remainder
+  pub recorded : AllByRecursion (λ (r : Recorded). IsRecorded r.pair r.payload) pairs
+  pub unfinished : BeginsNoPair remainder

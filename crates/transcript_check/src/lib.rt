@@ -20,5 +20,7 @@ mod tests;
 mod transcript_rows;
 
 pub use checker::Checker;
-pub use laws::{entered_bytes_may_be_blanked, first_no_tells, walks_are_determined};
+pub use laws::{
+    entered_bytes_may_be_blanked, first_no_tells, pairs_parse_in_one_way, walks_are_determined,
+};
 pub use pairs::{PairFed, Pairs};

@@ -2,8 +2,8 @@
 ghost use Rattle.std.specs.Prelude.{◌+◌, ◌≤◌};
 ghost use Rattle.transcript_check.specs.PairStreams.{held_length};
 
-use crate::fault_rows::{CUTS, ROWS, Read, TRANSCRIPT};
-use crate::transcript_rows::{DIALOGUE, FAILURES, KEYS, NUMBERED, PERIODS};
+use crate::fault_rows::{CUTS, ROWS, TRANSCRIPT};
+use crate::tests::{dialogue, failures, keys, numbered, periods};
 use crate::{Checker, PairFed, Pairs};
 use std::alloc::{AllocError, Global};
 use std::test::Fail;
@@ -22,7 +22,10 @@ struct Feeder {
 const MOST: u64 = 1 << 40;
 
 // What stands for no fault.
-const NONE: u64 = 9999;
+const NONE: u64 = 255;
+
+// Whole pairs, the fault, the byte that shows it, and whether the end is one of a pair.
+type Read = (u32, u64, u64, bool);
 
 fn begin(alloc: Global) -> Result<Feeder, AllocError> {
     let pairs = Pairs::new(alloc)?;
@@ -105,62 +108,95 @@ fn read(alloc: Global, bytes: &[u8], step: usize) -> Result<(Read, u32), AllocEr
     Ok(((u32::MAX, NONE, NONE, false), 0))
 }
 
+// Whether a transcript of so many lawful pairs is read as it is, in pieces of each size.
+fn is_read(alloc: Global, bytes: &[u8], pairs: u32) -> Result<bool, AllocError> {
+    let whole = ((pairs, NONE, NONE, true), pairs);
+    for step in [1usize, 7, 64, 4096] {
+        if read(alloc, bytes, step)? != whole {
+            return Ok(false);
+        }
+    }
+    Ok(true)
+}
+
 #[test]
 fn transcripts_are_read_however_cut(rt: HostRuntime) -> Result<(), Fail> {
-    for step in [1usize, 7, 64, 4096] {
-        assert_eq!(rt;
-            read(rt.alloc(), &DIALOGUE, step)?,
-            ((38, NONE, NONE, true), 38)
-        );
-        assert_eq!(rt;
-            read(rt.alloc(), &KEYS, step)?,
-            ((55, NONE, NONE, true), 55)
-        );
-        assert_eq!(rt;
-            read(rt.alloc(), &NUMBERED, step)?,
-            ((22, NONE, NONE, true), 22)
-        );
-        assert_eq!(rt;
-            read(rt.alloc(), &FAILURES, step)?,
-            ((136, NONE, NONE, true), 136)
-        );
-        assert_eq!(rt;
-            read(rt.alloc(), &PERIODS, step)?,
-            ((45, NONE, NONE, true), 45)
-        );
-    }
+    assert!(rt; is_read(rt.alloc(), dialogue(), 38)?);
+    assert!(rt; is_read(rt.alloc(), keys(), 55)?);
+    assert!(rt; is_read(rt.alloc(), numbered(), 22)?);
+    assert!(rt; is_read(rt.alloc(), failures(), 136)?);
+    assert!(rt; is_read(rt.alloc(), periods(), 45)?);
     Ok(())
+}
+
+fn rows() -> &'static [u8] {
+    &ROWS
+}
+
+fn cuts() -> &'static [u8] {
+    &CUTS
+}
+
+// What a row of four bytes tells.
+fn told(row: &[u8]) -> Read {
+    match row {
+        [pairs, place, shown, is_whole] => (
+            u32::from(*pairs),
+            u64::from(*place),
+            u64::from(*shown),
+            *is_whole == 1,
+        ),
+        _ => (u32::MAX, 0, 0, false),
+    }
+}
+
+// Whether the transcript with this byte set to this value is read as the row tells.
+fn is_found(alloc: Global, byte: usize, value: u8, wanted: Read) -> Result<bool, AllocError> {
+    let mut bytes = TRANSCRIPT;
+    match bytes.get_mut(byte) {
+        Some(changed) => *changed = value,
+        None => return Ok(false),
+    }
+    let (one_by_one, _) = read(alloc, &bytes, 1)?;
+    let (at_once, _) = read(alloc, &bytes, 141)?;
+    Ok(
+        one_by_one == wanted
+            && at_once.0 == wanted.0
+            && at_once.1 == wanted.1
+            && at_once.3 == wanted.3,
+    )
 }
 
 #[test]
 fn faults_are_told_where_they_show(rt: HostRuntime) -> Result<(), Fail> {
-    for (byte, from, to, pairs, place, shown, is_whole) in ROWS {
-        for value in [from, to] {
-            let mut bytes = TRANSCRIPT;
-            bytes[byte.min(140)] = value;
-            let (one_by_one, _) = read(rt.alloc(), &bytes, 1)?;
-            let (at_once, _) = read(rt.alloc(), &bytes, 141)?;
-            assert_eq!(rt;
-                one_by_one,
-                (pairs, place, shown, is_whole),
-                "at {byte}: {value}"
-            );
-            assert_eq!(rt;
-                (at_once.0, at_once.1, at_once.3),
-                (pairs, place, is_whole),
-                "at {byte}: {value}"
-            );
+    let mut rest = rows();
+    for number in 0..1000u32 {
+        let [byte, from, to, ..] = rest else {
+            assert!(rt; number > 600);
+            return Ok(());
+        };
+        let wanted = told(rest.get(3..7).unwrap_or(&[]));
+        for value in [*from, *to] {
+            let found = is_found(rt.alloc(), usize::from(*byte), value, wanted)?;
+            assert!(rt; found, "at {byte}: {value}");
         }
+        rest = rest.get(7..).unwrap_or(&[]);
     }
+    assert!(rt; false);
     Ok(())
 }
 
 #[test]
 fn transcripts_may_be_cut_off(rt: HostRuntime) -> Result<(), Fail> {
+    let transcript: &[u8] = &TRANSCRIPT;
     for length in 0..142usize {
-        let front = TRANSCRIPT.get(..length).unwrap_or(&[]);
-        let (told, _) = read(rt.alloc(), front, 5)?;
-        assert_eq!(rt; told, CUTS[length], "{length} bytes");
+        let front = transcript.get(..length).unwrap_or(&[]);
+        let (found, _) = read(rt.alloc(), front, 5)?;
+        let wanted = told(cuts().get(4 * length..4 * length + 4).unwrap_or(&[]));
+        assert!(rt;
+            (found.0, found.1, found.3) == (wanted.0, wanted.1, wanted.3),
+            "{length} bytes"
+        );
     }
     Ok(())
 }

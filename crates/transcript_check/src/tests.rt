@@ -7,6 +7,26 @@ use crate::transcript_rows::{
 use module_frames::{Command, reply_head};
 use std::test::Fail;
 
+pub(crate) fn dialogue() -> &'static [u8] {
+    &DIALOGUE
+}
+
+pub(crate) fn keys() -> &'static [u8] {
+    &KEYS
+}
+
+pub(crate) fn numbered() -> &'static [u8] {
+    &NUMBERED
+}
+
+pub(crate) fn failures() -> &'static [u8] {
+    &FAILURES
+}
+
+pub(crate) fn periods() -> &'static [u8] {
+    &PERIODS
+}
+
 fn number(bytes: &[u8]) -> u32 {
     match bytes {
         [a, b, c, d] => u32::from_be_bytes([*a, *b, *c, *d]),
@@ -200,10 +220,10 @@ fn blanked(bytes: &[u8], command: &mut Command) -> (u32, u32) {
 #[test]
 fn entered_bytes_may_be_blanked(rt: HostRuntime) -> Result<(), Fail> {
     let mut command = Command::new(rt.alloc())?;
-    assert_eq!(rt; blanked(&DIALOGUE, &mut command), (38, 38));
-    assert_eq!(rt; blanked(&KEYS, &mut command), (55, 55));
-    assert_eq!(rt; blanked(&NUMBERED, &mut command), (22, 22));
-    assert_eq!(rt; blanked(&PERIODS, &mut command), (45, 45));
+    assert_eq!(rt; blanked(dialogue(), &mut command), (38, 38));
+    assert_eq!(rt; blanked(keys(), &mut command), (55, 55));
+    assert_eq!(rt; blanked(numbered(), &mut command), (22, 22));
+    assert_eq!(rt; blanked(periods(), &mut command), (45, 45));
     Ok(())
 }
 
@@ -211,7 +231,7 @@ fn entered_bytes_may_be_blanked(rt: HostRuntime) -> Result<(), Fail> {
 fn the_dialogue_of_the_manual_is_judged(rt: HostRuntime) -> Result<(), Fail> {
     let (mut command, mut ahead) = (Command::new(rt.alloc())?, Command::new(rt.alloc())?);
     assert_eq!(rt;
-        misjudged(&DIALOGUE, &DIALOGUE_ROWS, &mut command, &mut ahead),
+        misjudged(dialogue(), &DIALOGUE_ROWS, &mut command, &mut ahead),
         (0, 0)
     );
     Ok(())
@@ -221,7 +241,7 @@ fn the_dialogue_of_the_manual_is_judged(rt: HostRuntime) -> Result<(), Fail> {
 fn the_dialogue_with_keys_is_judged(rt: HostRuntime) -> Result<(), Fail> {
     let (mut command, mut ahead) = (Command::new(rt.alloc())?, Command::new(rt.alloc())?);
     assert_eq!(rt;
-        misjudged(&KEYS, &KEYS_ROWS, &mut command, &mut ahead),
+        misjudged(keys(), &KEYS_ROWS, &mut command, &mut ahead),
         (0, 0)
     );
     Ok(())
@@ -231,7 +251,7 @@ fn the_dialogue_with_keys_is_judged(rt: HostRuntime) -> Result<(), Fail> {
 fn numbered_commands_are_judged(rt: HostRuntime) -> Result<(), Fail> {
     let (mut command, mut ahead) = (Command::new(rt.alloc())?, Command::new(rt.alloc())?);
     assert_eq!(rt;
-        misjudged(&NUMBERED, &NUMBERED_ROWS, &mut command, &mut ahead),
+        misjudged(numbered(), &NUMBERED_ROWS, &mut command, &mut ahead),
         (0, 0)
     );
     Ok(())
@@ -241,7 +261,7 @@ fn numbered_commands_are_judged(rt: HostRuntime) -> Result<(), Fail> {
 fn failures_are_judged(rt: HostRuntime) -> Result<(), Fail> {
     let (mut command, mut ahead) = (Command::new(rt.alloc())?, Command::new(rt.alloc())?);
     assert_eq!(rt;
-        misjudged(&FAILURES, &FAILURES_ROWS, &mut command, &mut ahead),
+        misjudged(failures(), &FAILURES_ROWS, &mut command, &mut ahead),
         (0, 0)
     );
     Ok(())
@@ -251,7 +271,7 @@ fn failures_are_judged(rt: HostRuntime) -> Result<(), Fail> {
 fn ends_of_periods_are_judged(rt: HostRuntime) -> Result<(), Fail> {
     let (mut command, mut ahead) = (Command::new(rt.alloc())?, Command::new(rt.alloc())?);
     assert_eq!(rt;
-        misjudged(&PERIODS, &PERIODS_ROWS, &mut command, &mut ahead),
+        misjudged(periods(), &PERIODS_ROWS, &mut command, &mut ahead),
         (0, 0)
     );
     Ok(())
