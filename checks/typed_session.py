@@ -15,6 +15,10 @@ import tempfile
 import termios
 import time
 
+# A check that runs in the background may be given these as ignored, and whatever it starts would be too.
+for heard in (signal.SIGINT, signal.SIGQUIT, signal.SIGTERM, signal.SIGHUP):
+    signal.signal(heard, signal.SIG_DFL)
+
 SECONDS = 20
 # So long nothing comes where nothing is to come.
 SILENCE = 0.2
