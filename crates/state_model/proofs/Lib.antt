@@ -40,3 +40,4 @@ pub mod Meanings
 pub mod Completed
 pub mod Residues
 pub mod Closings
+pub mod Restored

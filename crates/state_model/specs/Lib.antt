@@ -17,3 +17,4 @@ pub mod Permission
 pub mod SelfTesting
 pub mod Residue
 pub mod Closing
+pub mod Copies

@@ -31,6 +31,8 @@ ghost use Rattle.state_model.specs.Meaning.{AnswersByTheStandards, held_in};
 ghost use Rattle.state_model.specs.Residue.{IsClean};
 ghost use Rattle.state_model.specs.Closing.{IsShut};
 
+mod copies;
+
 use crate::commit::commit;
 use crate::cryptographic::{note_link, perform};
 use crate::entry::{Entry, Target};
@@ -554,9 +556,11 @@ impl<E: Engine> Module<E> {
 #[cfg(test)]
 mod tests {
     use super::*;
+    use bits_core::{Enabled, Port};
     use engine_core::Shipped;
     use outside::MemNoise;
     use std::test::Fail;
+    use vault_backup::BACKUP_MOST;
 
     #[test]
     fn opens_answers_and_closes(rt: HostRuntime) -> Result<(), Fail> {
@@ -579,6 +583,18 @@ mod tests {
         );
         assert!(rt; reply.status == Status::Ok);
         assert_eq!(rt; reply.block, [0, 0, 0, 0, 0, 0, 0, 3, 0, 0, 0, 0]);
+        Ok(())
+    }
+
+    #[test]
+    fn writes_no_backup_without_power(rt: HostRuntime) -> Result<(), Fail> {
+        let mut out = Outbox::new(rt.alloc(), BACKUP_MOST)?;
+        Port::<Enabled>::over(&mut out).put(&[1, 2, 3]);
+        let module = Module::open(rt.alloc(), Shipped::new(), Vec::new(rt.alloc()), [0; 32])?;
+        let written = module.backup(&[1; 32], &[2; 32], &mut out);
+        module.close();
+        assert!(rt; !written);
+        assert!(rt; out.bytes().is_empty());
         Ok(())
     }
 }
