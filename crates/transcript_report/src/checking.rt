@@ -2,10 +2,14 @@
 ghost use Rattle.std.specs.Prelude.{◌≡◌, ◌≢◌, ◌<◌, ◌++◌, ℕ, List, Some, None, [], length, replicate};
 ghost use Rattle.transcript_check.specs.PairStreams.{new_pair};
 ghost use Rattle.transcript_report.specs.Verdicts.{IsVerdict};
-ghost use Rattle.transcript_report.specs.Checks.{Checks, ReadsLeft, WritesLeft};
+ghost use Rattle.transcript_report.specs.Checks.{Checks, ReadsLeft, VerdictReached, WritesLeft};
+ghost use Rattle.transcript_report.specs.Progress.{ReadCutOff, text_of};
 
+use crate::chunks::{ChunkEnd, check_chunk};
+use crate::text::write_text;
 use outside::{Sink, Source};
-use transcript_check::Pairs;
+use stream_calls::{STREAM_MAX, read_some};
+use transcript_check::{Checker, Pairs};
 
 /// How the check of a transcript ended.
 #[derive(Clone, Copy, Debug, PartialEq, Eq)]
@@ -24,6 +28,45 @@ pub enum Checked {
     WriteFault,
     /// 2^40 bytes were taken. They show no unlawful pair and no fault.
     Limit,
+}
+
+// Reads a transcript up to its verdict, and counts its pairs.
+fn find_verdict<S: Source>(
+    transcript: &mut S,
+    pairs: &mut Pairs,
+    count: &mut u64,
+    chunk: &mut [u8],
+) -> Checked
+    requires new { pairs.old ≡ new_pair 0 None }
+    requires none { count.old ≡ 0 }
+    requires chunk { 0 < length chunk.old }
+    ensures found { result ≢ Checked.ReadFault → VerdictReached result (length chunk.old) (text_of result count.new) (S.left transcript.old) (S.left transcript.new) }
+    ensures read_fault { result ≡ Checked.ReadFault → ReadCutOff (S.left transcript.old) (S.left transcript.new) }
+    ensures reads { ReadsLeft result (S.faults transcript.old) (S.faults transcript.new) }
+    ensures size { length chunk.new ≡ length chunk.old }
+{
+    let mut checker = Checker::new();
+    let mut taken: u64 = 0;
+    while taken < STREAM_MAX {
+        match read_some(transcript, chunk, STREAM_MAX - taken) {
+            Err(_) => return Checked::ReadFault,
+            Ok(0) => {
+                if pairs.at_boundary() {
+                    return Checked::Lawful;
+                }
+                return Checked::Truncated;
+            }
+            Ok(size) => {
+                match check_chunk(&mut checker, pairs, count, &chunk[..size]) {
+                    ChunkEnd::All => {}
+                    ChunkEnd::Unlawful => return Checked::Unlawful(*count),
+                    ChunkEnd::BadFrame(place) => return Checked::BadFrame(place),
+                }
+                taken += size as u64;
+            }
+        }
+    }
+    Checked::Limit
 }
 
 /// Reads a transcript, each command's frame followed by its reply's, and writes whether it is lawful: `lawful`, a space and the number of
@@ -55,5 +98,12 @@ pub fn check_transcript<S: Source, K: Sink>(
     ensures cleared { (pairs.new.command ≡ []) × (pairs.new.head ≡ []) }
     ensures zero { chunk.new ≡ replicate (length chunk.old) 0 }
 {
-    unreachable!()
+    let mut count = 0;
+    let found = find_verdict(transcript, pairs, &mut count, chunk);
+    pairs.clear();
+    chunk.fill(0);
+    match write_text(verdict, found, count) {
+        Ok(_) => found,
+        Err(_) => Checked::WriteFault,
+    }
 }

@@ -2,7 +2,9 @@
 #![tactic(auto)]
 
 mod checking;
+mod chunks;
 mod laws;
+mod text;
 
 pub use checking::{Checked, check_transcript};
 pub use laws::{has_one_verdict, verdicts_tell};

@@ -1,0 +1,4 @@
+pub mod PairSplits
+pub mod FirstUnlawful
+pub mod PairFaults
+pub mod PairChecks
