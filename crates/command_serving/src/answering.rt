@@ -49,7 +49,9 @@ pub enum ChunkEnd {
     WriteFault,
 }
 
-/// Serves a chunk: does and answers each command that it ends.
+/// Serves a chunk: does and answers each command that it ends. It isn't inlined, so that all that it leaves on the stack lies below the frame
+/// of its caller.
+#[inline(never)]
 pub fn serve_chunk<E: Engine, N: Noise, K: Sink, C: Codec>(
     module: &mut Module<E>,
     noise: &mut N,

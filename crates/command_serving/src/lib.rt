@@ -3,10 +3,11 @@
 
 mod answering;
 mod codec;
+mod dead_stack;
 mod frame_codec;
 mod serving;
 #[cfg(test)]
 mod tests;
 
 pub use codec::{Codec, Decoded};
-pub use serving::{Ended, serve, serve_stream};
+pub use serving::{Ended, serve, serve_stream, wipe_served};

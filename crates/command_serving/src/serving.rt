@@ -18,6 +18,7 @@ ghost use Rattle.command_serving.specs.Secrets.{KeepsSecrets};
 
 use crate::answering::{ChunkEnd, serve_chunk};
 use crate::codec::Codec;
+use crate::dead_stack::wipe_dead_stack;
 use engine_core::Engine;
 use module_frames::{Frames, Reply};
 use outside::{Failed, Noise, Sink, Source};
@@ -40,6 +41,14 @@ pub enum Ended {
     WriteFault,
     /// 2^40 bytes were taken. The commands that were whole were answered.
     Limit,
+}
+
+/// Makes bytes that were served zero, and the stack that serving them used: no command's bytes stay in memory while the next ones are waited
+/// for.
+pub fn wipe_served(chunk: &mut [u8])
+    ensures { chunk.new ≡ replicate (length chunk.old) 0 }
+{
+    chunk.fill(wipe_dead_stack(chunk.len()));
 }
 
 // How a stream without a fault ends, with these bytes held.
@@ -112,8 +121,7 @@ pub fn serve_stream<E: Engine, N: Noise, S: Source, K: Sink, C: Codec>(
                     ChunkEnd::Fault(number) => return Ended::BadFrame(number),
                     ChunkEnd::WriteFault => return Ended::WriteFault,
                 }
-                // No command's bytes stay in the chunk while the next ones are waited for.
-                chunk[..count].fill(0);
+                wipe_served(&mut chunk[..count]);
                 taken += count as u64;
             }
         }
@@ -158,6 +166,6 @@ pub fn serve<E: Engine, N: Noise, S: Source, K: Sink>(
     let ended = serve_stream(module, noise, commands, replies, frames, reply, chunk);
     frames.clear();
     reply.clear();
-    chunk.fill(0);
+    wipe_served(chunk);
     ended
 }

@@ -10,7 +10,7 @@ ghost use Rattle.state_model.specs.Represents.{Represents};
 ghost use Rattle.line_serving.specs.Operating.{Tells, Operates, KeepsLineSecrets};
 
 use crate::line_codec::LineCodec;
-use command_serving::{Codec, Ended, serve_stream};
+use command_serving::{Codec, Ended, serve_stream, wipe_served};
 use engine_core::Engine;
 use module_frames::Reply;
 use outside::{Noise, Sink, Source};
@@ -92,6 +92,6 @@ pub fn operate<E: Engine, N: Noise, S: Source, K: Sink>(
     let ended = serve_stream(module, noise, lines, replies, codec, reply, chunk);
     codec.clear();
     reply.clear();
-    chunk.fill(0);
+    wipe_served(chunk);
     conclude(ended, codec, replies)
 }
