@@ -17,6 +17,7 @@ import dialogue_worlds
 import stored_files
 from dialogue_bodies import DIGEST, IMAGE, NOISE
 
+CRATE = "dialogue_program"
 DIALOGUES = {**dialogue_forms.DIALOGUES, **dialogue_keys.DIALOGUES, **dialogue_runs.DIALOGUES, **dialogue_worlds.DIALOGUES}
 
 
@@ -39,7 +40,7 @@ def main(words):
             print(f"{name:28} {(dialogue.__doc__ or '').splitlines()[0] if dialogue.__doc__ else ''}".rstrip())
         return 0
     dialogue_runs.compare_draws()
-    return stored_files.main(words, "dialogue_program", written(), "dialogue.py", f"{len(DIALOGUES)} dialogues")
+    return stored_files.main(words, CRATE, written(), "dialogue.py", f"{len(DIALOGUES)} dialogues")
 
 
 if __name__ == "__main__":
