@@ -16,18 +16,17 @@ class Frames:
         self.held = b""
 
     def feed(self, piece):
-        """The frames that are whole with this piece; what is left is held."""
+        """Yields the frames that are whole with this piece, one after another; what is left is held."""
         self.held += piece
-        frames = []
         while True:
             length = self.length()
             if length is None or len(self.held) < length:
-                return frames
-            frames.append(self.held[:length])
-            self.held = self.held[length:]
+                return
+            frame, self.held = self.held[:length], self.held[length:]
+            yield frame
 
     def length(self):
-        """The length of the frame that the bytes held begin; None where they don't tell yet."""
+        """The length of the frame that the bytes held begin; None where they don't tell yet. Bytes that begin none are a ValueError."""
         held = self.held
         if held and held[0] != self.first or len(held) > 1 and held[1] not in self.lengths:
             raise ValueError(f"no frame begins with {held[:2].hex()}")
