@@ -14,7 +14,7 @@ HERE = os.path.dirname(os.path.abspath(__file__))
 TOP = os.path.join(HERE, "..")
 sys.path[:0] = [os.path.join(TOP, "examples"), HERE]
 from client import Algorithm, Domain, Kind, Module, Role, Service, State, Status, image_digest, parts_of_sealed
-from transcripts import check, pair_at
+from transcripts import SHOWN, check, manual_transcript, pair_at
 
 SECONDS = 60
 RECORD, CLIENT = (os.path.join(TOP, "examples", name) for name in ("record.py", "client.py"))
@@ -249,7 +249,18 @@ def talks():
     expect("verdict", checked(content(in_room("talked")))[:2], (0, b"lawful 2\n"))
 
 
+def manual():
+    """The dialogues of the manual are lawful, and its recorded one is told as it says, as it is and with byte 48 changed."""
+    for heading in ("A dialogue", "A dialogue with keys"):
+        pairs = manual_transcript(heading)
+        expect(heading, checked(b"".join(map(b"".join, pairs)))[:2], (0, b"lawful %d\n" % len(pairs)))
+    transcript = b"".join(map(b"".join, manual_transcript("Transcripts", SHOWN)))
+    expect("Transcripts", checked(transcript), (0, b"lawful 3\n", b""))
+    expect("Transcripts, changed", checked(transcript[:48] + b"\3" + transcript[49:]), (16, b"pair 2\n", TEXTS[16]))
+
+
 PARTS = {
+    "transcripts of the manual": manual,
     "worked transcripts": worked,
     "a recorded dialogue": lambda: recorded(False),
     "a recorded dialogue with numbers": lambda: recorded(True),

@@ -5,6 +5,8 @@
 
 Nothing here was taken from the crates. The rules of a pair stand in machine_rules.py.
 """
+import os
+import re
 import sys
 
 from machine_rules import Public, number, read_command, read_head, step
@@ -12,6 +14,9 @@ from machine_rules import Public, number, read_command, read_head, step
 LAWFUL, BAD_FRAME, TRUNCATED, NOT_LAWFUL = 0, 3, 4, 16
 LARGEST_BODY, LARGEST_PAYLOAD = 65600, 65664
 LONGEST_HEAD = 28
+MANUAL = os.path.join(os.path.dirname(os.path.abspath(__file__)), "..", "docs", "INTERFACE.md")
+ROW = re.compile(r"\| `(c5[0-9a-f]+)` \| `(5c[0-9a-f]+)`(?: and `([0-9a-f]+)`)? \|")
+SHOWN = re.compile(r"^    command (c5[0-9a-f]+)\n    reply   (5c[0-9a-f]+)(?: ([0-9a-f]+))?$", re.MULTILINE)
 
 
 class BadFrame(Exception):
@@ -80,6 +85,14 @@ def check(transcript, pairs=0, at=0, public=Public()):
     except BadFrame:
         return BAD_FRAME, b""
     return (LAWFUL, b"lawful %d\n" % pairs) if at == len(transcript) else (TRUNCATED, b"")
+
+
+def manual_transcript(heading, pairs=ROW):
+    """The pairs of a dialogue of the manual: frame, head, payload."""
+    with open(MANUAL, encoding="utf-8") as file:
+        text = file.read()
+    part = text.split(f"\n## {heading}\n")[1].split("\n## ")[0]
+    return [tuple(bytes.fromhex(digits or "") for digits in row) for row in pairs.findall(part)]
 
 
 def main(words):
