@@ -223,7 +223,7 @@ STUCK = [
 EMPTY_DIGEST = b"d38b42096d80f45f826b44a9d5607de72496a415d3f4a1a8c88e3bb9da8dc1cb\n"
 ZEROS_DIGEST = b"e7e5b3b173eaad5deb4c69c43c9501be552e11f55b87229d4d4e3d343877ed85\n"
 
-USAGE = b"usage: serve, operate, digest, session or vectors\n"
+USAGE = b"usage: serve, operate, digest, session, vectors or check\n"
 BAD_FRAME = b"bad frame\n"
 TRUNCATED = b"truncated frame\n"
 READ_FAILED = b"read failed\n"
@@ -485,7 +485,7 @@ def other_words():
     wrong = [[], [""], ["serve"], serve[:2], serve[:3], serve + [serve[3]], ["Serve", *serve[1:]], ["serve ", *serve[1:]], ["serv", *serve[1:]]]
     wrong += [["digest"], ["digest", serve[1], serve[2]], ["Digest", serve[1]], ["--help"], ["-"], ["demo"], [b"\xff"], ["digest", b"\xff"]]
     files = serve[1:]
-    wrong += [["operate"], ["operate", *files[:2]], ["operate", *files, files[2]], ["Operate", *files], ["vectors", ""], ["vectors", "-"], ["try"]]
+    wrong += [["operate"], ["operate", *files[:2]], ["operate", *files, files[2]], ["Operate", *files], ["vectors", ""], ["vectors", "-"], ["check", ""], ["check", "-"], ["try"]]
     seeds = ["", "-1", "+7", "07", "0x7", "7 ", "18446744073709551616", "99999999999999999999999", "seven"]
     wrong += [["session", "7", "0"], ["session", "7", *files], ["session", "7", "0", *files, "7"]]
     wrong += [["session", seed, "0", *files] for seed in seeds] + [["session", "7", count, *files] for count in (*seeds, "100001", "00")]

@@ -8,16 +8,16 @@
 Each dialogue is a file of data/, with commands for a module that is opened anew. stdout has the replies to the first, a line with
 its name and its exit status, and so on.
 """
-import os
 import sys
 
 import dialogue_forms
 import dialogue_keys
 import dialogue_runs
 import dialogue_worlds
+import stored_files
 from dialogue_bodies import DIGEST, IMAGE, NOISE
 
-CRATE = os.path.join(os.path.dirname(os.path.abspath(__file__)), "..", "crates", "dialogue_program")
+CRATE = "dialogue_program"
 DIALOGUES = {**dialogue_forms.DIALOGUES, **dialogue_keys.DIALOGUES, **dialogue_runs.DIALOGUES, **dialogue_worlds.DIALOGUES}
 
 
@@ -34,44 +34,13 @@ def written():
     return files
 
 
-def content(path):
-    try:
-        with open(path, "rb") as file:
-            return file.read()
-    except FileNotFoundError:
-        return None
-
-
-def stored():
-    """The names of the files that stand there."""
-    return {"args", "stdout"} | {f"data/{name}" for name in os.listdir(os.path.join(CRATE, "data"))}
-
-
-def check(files):
-    others = [name for name in sorted(stored() | set(files)) if content(os.path.join(CRATE, name)) != files.get(name)]
-    for name in others:
-        print(f"rows: FAILED: crates/dialogue_program/{name} is NOT what checks/dialogue.py writes")
-    if not others:
-        print(f"rows: checks/dialogue.py: the {len(DIALOGUES)} dialogues of dialogue_program are what it writes")
-    return 1 if others else 0
-
-
 def main(words):
     if words == ["--list"]:
         for name, dialogue in DIALOGUES.items():
             print(f"{name:28} {(dialogue.__doc__ or '').splitlines()[0] if dialogue.__doc__ else ''}".rstrip())
         return 0
     dialogue_runs.compare_draws()
-    files = written()
-    if words == ["--check"]:
-        return check(files)
-    os.makedirs(os.path.join(CRATE, "data"), exist_ok=True)
-    for name in stored() - set(files):
-        os.remove(os.path.join(CRATE, name))
-    for name, wanted in files.items():
-        with open(os.path.join(CRATE, name), "wb") as file:
-            file.write(wanted)
-    return 0
+    return stored_files.main(words, CRATE, written(), "dialogue.py", f"{len(DIALOGUES)} dialogues")
 
 
 if __name__ == "__main__":

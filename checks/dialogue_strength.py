@@ -9,6 +9,7 @@ import sys
 import tempfile
 
 import dialogue
+import stored_files
 
 HERE = os.path.dirname(os.path.abspath(__file__))
 MODEL, FORMS, FUNCTIONS = "machine.py", "machine_bodies.py", "machine_functions.py"
@@ -169,7 +170,7 @@ def told(mistake, replies):
                 text = text.replace(right, wrong)
             with open(os.path.join(folder, name), "w", encoding="utf-8") as copy:
                 copy.write(text)
-        words = [sys.executable, "-B", "-c", TELLS, dialogue.CRATE]
+        words = [sys.executable, "-B", "-c", TELLS, os.path.join(stored_files.CRATES, dialogue.CRATE)]
         ran = subprocess.run(words, input=replies, cwd=folder, stdout=subprocess.PIPE, text=True, env={**os.environ, "PYTHONPATH": folder})
         return ran.stdout.strip() if ran.returncode == 0 else "BAD: it ended early"
 

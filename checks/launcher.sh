@@ -39,7 +39,7 @@ done
 copy=$room/copy/warlinden
 bare=(env "PATH=$room/bin")
 for words in '' frobnicate 'demo demo' 'build now' Serve serve 'serve image digest' 'serve a b c d' digest 'digest a b' \
-    Try 'try it' operate 'operate image digest' 'operate a b c d' session 'session 7 0 image digest' 'session 7 0 a b c d' 'vectors now'; do
+    Try 'try it' operate 'operate image digest' 'operate a b c d' session 'session 7 0 image digest' 'session 7 0 a b c d' 'vectors now' Check 'check transcript'; do
     # shellcheck disable=SC2086
     ends 2 - 'usage: warlinden' "${bare[@]}" "$copy" $words
 done
@@ -50,6 +50,7 @@ ends 127 - 'warlinden: .*no rt' "${bare[@]}" "$copy" serve image digest noise
 ends 127 - 'warlinden: .*no rt' "${bare[@]}" "$copy" operate image digest noise
 ends 127 - 'warlinden: .*no rt' "${bare[@]}" "$copy" session 7 0 image digest noise
 ends 127 - 'warlinden: .*no rt' "${bare[@]}" "$copy" vectors
+ends 127 - 'warlinden: .*no rt' "${bare[@]}" "$copy" check
 ends 127 - 'warlinden: .*no rt' "${bare[@]}" "$copy" digest image
 ends 127 - 'warlinden: .*no rt' "${bare[@]}" "$copy" try
 ends 127 - 'warlinden: .*no rt' "${bare[@]}" "$copy" build
@@ -74,7 +75,7 @@ ends 8 - 'file failed' "$room/link" serve image digest none
 ends 11 - 'bad digest file' "$room/link" serve image image /dev/null
 ends 2 - 'usage: warlinden' "$room/link" serve now
 
-# Lines, sessions and vectors.
+# Lines, sessions, vectors and transcripts.
 printf '# a note\npoweron 0\nversion' >lines
 printf 'status\nfrob\nstatus\n' >bad_line
 printf 'sha256 616263 %s\n' ba7816bf8f01cfea414140de5dae2223b00361a396177a9cb410ff61f20015ad >vector
@@ -86,10 +87,19 @@ input=bad_line ends 10 'Ok Off 0 0000 000000000000000000000000 -$' 'bad line$' "
 ends 11 - 'bad digest file' "$room/link" operate image image /dev/null
 ends 0 'commands 11$' - "$room/link" session 7 0 image digest /dev/zero
 [ "$(tail -n 2 out | head -n 1)" = 'state Error' ] || fail 'a session over noise without end that is stuck did not end in Error'
-ends 2 - 'usage: serve, operate, digest, session or vectors$' "$room/link" session 07 0 image digest /dev/zero
+ends 2 - 'usage: serve, operate, digest, session, vectors or check$' "$room/link" session 07 0 image digest /dev/zero
 input=vector ends 0 '1 pass$' - "$room/link" vectors
 input=other_vector ends 1 '1 fail$' 'a vector failed$' "$room/link" vectors
 input=bad_line ends 10 'bad line 1$' 'bad line$' "$room/link" vectors
+# ShowStatus in Off and its reply; the same reply, which tells the state Init; half of it
+printf '\xc5\x01\x04\0\0\0\0\0\x5c\x01\x04\0\0\0\0\0\0\0\0\0\0\0\0\0\0\0\0\0\0\0\0\0' >transcript
+printf '\xc5\x01\x04\0\0\0\0\0\x5c\x01\x04\0\1\0\0\0\0\0\0\0\0\0\0\0\0\0\0\0\0\0\0\0' >other_transcript
+head -c 20 transcript >half_transcript
+input=transcript ends 0 'lawful 1$' - "$room/link" check
+input=other_transcript ends 16 'pair 1$' 'not lawful$' "$room/link" check
+input=half_transcript ends 4 - 'truncated frame$' "$room/link" check
+input=lines ends 3 - 'bad frame$' "$room/link" check
+ends 0 'lawful 0$' - "$room/link" check
 
 # A module to try: its folder is gone in the end, however it ends.
 mkdir tried || exit 1

@@ -9,17 +9,16 @@ machine_vectors.py, machine_sessions.py and machine_words.py answer to them.
 A line of args has the name of a file of data/, and the words of the runs that have its inputs: one run for each, where a separator
 parts them. stdout has what each run writes, and behind it the same line and the run's status.
 """
-import os
 import sys
 
 import line_dialogues
 import line_faults
 import line_vectors
 import line_words
+import stored_files
 from line_parts import FILES, SEPARATOR, Run, Surprise
 from machine_words import run
 
-CRATE = os.path.join(os.path.dirname(os.path.abspath(__file__)), "..", "crates", "line_program")
 RUNS = {**line_dialogues.RUNS, **line_faults.RUNS, **line_vectors.RUNS}
 # The input of the runs that are told apart by their words alone: none of them reads it.
 UNREAD = "unread"
@@ -59,28 +58,6 @@ def written():
     return {**files, "args": descriptions.encode(), "stdout": stdout}, count
 
 
-def content(path):
-    try:
-        with open(path, "rb") as file:
-            return file.read()
-    except FileNotFoundError:
-        return None
-
-
-def stored():
-    """The names of the files that stand there."""
-    return {"args", "stdout"} | {f"data/{name}" for name in os.listdir(os.path.join(CRATE, "data"))}
-
-
-def check(files, count):
-    others = [name for name in sorted(stored() | set(files)) if content(os.path.join(CRATE, name)) != files.get(name)]
-    for name in others:
-        print(f"rows: FAILED: crates/line_program/{name} is NOT what checks/line_runs.py writes")
-    if not others:
-        print(f"rows: checks/line_runs.py: the {count} runs of line_program are what it writes")
-    return 1 if others else 0
-
-
 def main(words):
     if words == ["--list"]:
         for name, of in RUNS.items():
@@ -88,15 +65,7 @@ def main(words):
         print(f"{UNREAD:28} Sessions, and words that are refused: no run reads it.")
         return 0
     files, count = written()
-    if words == ["--check"]:
-        return check(files, count)
-    os.makedirs(os.path.join(CRATE, "data"), exist_ok=True)
-    for name in stored() - set(files):
-        os.remove(os.path.join(CRATE, name))
-    for name, wanted in files.items():
-        with open(os.path.join(CRATE, name), "wb") as file:
-            file.write(wanted)
-    return 0
+    return stored_files.main(words, "line_program", files, "line_runs.py", f"{count} runs")
 
 
 if __name__ == "__main__":

@@ -15,7 +15,7 @@ from machine_words import run
 
 HERE = os.path.dirname(os.path.abspath(__file__))
 LINES, SESSIONS, VECTORS, WORDS = "machine_lines.py", "machine_sessions.py", "machine_vectors.py", "machine_words.py"
-MODELS = (LINES, SESSIONS, VECTORS, WORDS, "machine.py", "machine_bodies.py", "machine_functions.py")
+MODELS = (LINES, SESSIONS, VECTORS, WORDS, "machine.py", "machine_bodies.py", "machine_functions.py", "machine_rules.py", "transcripts.py")
 
 # The name of a mistake, and the text of the model that it exchanges.
 MISTAKES = [

@@ -1,7 +1,7 @@
 """The rules that each reply keeps, as docs/INTERFACE.md tells them: over the public state, a command and the head of its reply.
 
-Nothing here was taken from the crates: it is what a reader of the manual would write to look at a recorded dialogue. Used by
-transcript_rows.py.
+Nothing here was taken from the crates: it is what a reader of the manual would write to look at a recorded dialogue. transcripts.py looks
+at whole ones by it.
 """
 from dataclasses import dataclass, replace
 
@@ -315,37 +315,3 @@ def step(public, command, head):
             lawful = head.length == 0 and head.block == ZERO
         lawful = lawful and indicated(name, command.body, head)
     return then if then is not None and lawful and (head.state, head.code) == (then.state, then.code) else None
-
-
-def command_fault(frame):
-    """The offset of the first fault that the bytes of a command's frame show, and that of the byte with which it shows, or None."""
-    for place, good in ((0, (0xC5,)), (1, (1, 2)), (3, (0,))):
-        if len(frame) > place and frame[place] not in good:
-            return place, place
-    return (4, 7) if len(frame) >= 8 and number(frame[4:8]) > 65600 else None
-
-
-def reply_fault(frame):
-    """The same of a reply's frame."""
-    for place, good in ((0, (0x5C,)), (1, (1, 2)), (3, range(17)), (4, range(8)), (5, (0, 1))):
-        if len(frame) > place and frame[place] not in good:
-            return place, place
-    return (20, 23) if len(frame) >= 24 and number(frame[20:24]) > 65664 else None
-
-
-def read_transcript(transcript):
-    """How many whole pairs stand at the front; the first fault behind them, as above, or None; and whether nothing stands behind them."""
-    pairs, at = 0, 0
-    while at < len(transcript):
-        begun = at
-        for fault_of, plain, length_at in ((command_fault, 8, 4), (reply_fault, 24, 20)):
-            frame = transcript[at:]
-            fault = fault_of(frame)
-            if fault:
-                return pairs, (fault[0] + at, fault[1] + at), False
-            size = plain + 4 * (frame[1:2] == b"\2")
-            if len(frame) < size or len(frame) < size + number(frame[length_at : length_at + 4]):
-                return pairs, None, begun == len(transcript)
-            at += size + number(frame[length_at : length_at + 4])
-        pairs += 1
-    return pairs, None, True

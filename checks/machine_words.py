@@ -4,6 +4,7 @@ fails. It is written from their description and not from the sources.
 import re
 
 import machine_functions as functions
+import transcripts
 from machine import IMAGE_KEY, Machine, served
 from machine_lines import BAD_DIGEST, digest_of
 from machine_lines import operate as operate_on
@@ -72,8 +73,12 @@ def vectors(words, files, stream):
     return report(stream)
 
 
+def check(words, files, stream):
+    return transcripts.check(stream)
+
+
 # For each first word how many others there are, and what it does.
-WORDS = {"serve": (3, serve), "operate": (3, operate), "digest": (1, digest), "session": (5, session), "vectors": (0, vectors)}
+WORDS = {"serve": (3, serve), "operate": (3, operate), "digest": (1, digest), "session": (5, session), "vectors": (0, vectors), "check": (0, check)}
 
 
 def run(words, files, stream):

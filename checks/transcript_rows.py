@@ -9,24 +9,11 @@ here, with numbered commands, failures and the ends of periods. A row is a pair'
 one to another, and the number of the first pair that breaks a rule where that byte has one of these values and had another, or 0 where
 none does. For all other values it is the pair itself.
 """
-import os
-import re
-
 from machine_rules import (
     AUTH_FAILED, BAD_LENGTH, CHECK_FAILED, EMPTY_SLOT, NOISE_FAULT, NUMBER, OK, OUT_OF_ORDER, SPENT, TEST_FAILED, ZERO, Command, Head, Public,
     read_command, read_head, refusal, step,
 )
-
-MANUAL = os.path.join(os.path.dirname(os.path.abspath(__file__)), "..", "docs", "INTERFACE.md")
-ROW = re.compile(r"\| `(c5[0-9a-f]+)` \| `(5c[0-9a-f]+)`(?: and `([0-9a-f]+)`)? \|")
-
-
-def manual_transcript(heading):
-    """The pairs of a dialogue of the manual: frame, head, payload."""
-    with open(MANUAL, encoding="utf-8") as file:
-        text = file.read()
-    part = text.split(f"\n## {heading}\n")[1].split("\n## ")[0]
-    return [tuple(bytes.fromhex(digits or "") for digits in row) for row in ROW.findall(part)]
+from transcripts import manual_transcript
 
 
 class Dialogue:

@@ -137,6 +137,7 @@ EXIT_STATUSES = {
     10: "a line is no command, or no test vector",
     11: "the digest file is not 64 hex digits and at most one line feed",
     12: "stream too long: 2^40 bytes were read",
+    16: "a pair of the transcript breaks a rule",
     125: "the launcher could not write",
     126: "the launcher could not prove and build the program",
     127: "the launcher found no program, and nothing to build it with",

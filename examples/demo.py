@@ -12,9 +12,10 @@ import sys
 import tempfile
 
 from client import (
-    TAG_LENGTH, Domain, Ended, Kind, Module, Service, Status, check_value, command_frame, derive_body, entry_header, exit_in_words,
+    TAG_LENGTH, Domain, Ended, Kind, Module, Service, State, Status, check_value, command_frame, derive_body, entry_header, exit_in_words,
     image_digest, open_body, parts_of_sealed, read_reply, run, seal_body, show_exchange, unwrap_body,
 )
+from transcript import pair
 
 # The dialogues of the demo: what is done, the service and the body, and of an expected refusal its status and reason. A body that
 # needs what a service gave before is a function of the payloads by their services.
@@ -159,13 +160,15 @@ def show_line(line, frame, reply, given):
     return True
 
 
-def play(words, lines):
-    """Each command once the reply to the one before it is there."""
+def play(words, lines, transcript):
+    """Each command once the reply to the one before it is there. A transcript is written of them."""
     given = {}
     with Module(words) as module:
         for line, sequence in lines:
             frame = frame_of(line, sequence, given)
-            if not show_line(line, frame, module.ask_frame(frame), given):
+            reply = module.ask_frame(frame)
+            transcript.append(pair(frame, reply.frame))
+            if not show_line(line, frame, reply, given):
                 return 1
         status = module.end()
     print(f"The input ends: {exit_in_words(status)}")
@@ -184,13 +187,14 @@ def run_at_once(words, frames):
     return replies, status
 
 
-def play_at_once(words, lines):
+def play_at_once(words, lines, transcript):
     """For a build that reads its input whole: where a command needs an earlier reply, the run is made anew over the same noise."""
     given, shown, status = {}, 0, 0
     while shown < len(lines):
         frames = known_frames(lines, given)
         replies, status = run_at_once(words, frames)
         for (line, _), frame, reply in list(zip(lines, frames, replies))[shown:]:
+            transcript.append(pair(frame, reply.frame))
             if not show_line(line, frame, reply, given):
                 return 1
         if len(frames) == shown:
@@ -243,17 +247,47 @@ def play_lines(words, rows, last=()):
     return ran.returncode or int(written != wanted)
 
 
+# Of a reply, the place of its state.
+STATE_AT = 4
+
+
+def show_verdict(words, transcript, what, wanted):
+    """Has a transcript checked, shows the verdict, and says whether it is the one that it should be."""
+    ran = subprocess.run(words, input=b"".join(transcript), stdout=subprocess.PIPE, stderr=subprocess.DEVNULL)
+    verdict = ran.stdout.decode("ascii", "replace").strip()
+    print(f"{what}\n    {verdict}, exit status {ran.returncode}")
+    if (verdict, ran.returncode) != wanted:
+        print(f"    THIS IS NOT WHAT WAS EXPECTED: {wanted}")
+        return False
+    return True
+
+
+def check_dialogue(words, transcript):
+    """The verdict on a recorded dialogue, and on the same where a reply tells another state."""
+    count, at = len(transcript), 7
+    if not show_verdict(words, transcript, f"The first dialogue, as it was recorded: {count} commands and their replies", (f"lawful {count}", 0)):
+        return 1
+    print("    Each reply is one that the rules allow after the ones before it. That a module gave them, no transcript can tell.")
+    state = transcript[at].index(b"\x5c\x01") + STATE_AT
+    changed = [*transcript[:at], transcript[at][:state] + bytes([State.User]) + transcript[at][state + 1 :], *transcript[at + 1 :]]
+    if not show_verdict(words, changed, f"The same, where reply {at + 1} to SelectRole tells the user's role in place of the officer's", (f"pair {at + 1}", 16)):
+        return 1
+    print("    The officer's role was asked for, and so no other can come of it.")
+    return 0
+
+
 def demo(program, with_numbers, at_once):
     how = play_at_once if at_once else play
     with tempfile.TemporaryDirectory() as room:
         if not make_files(program, room, at_once):
             return 1
         words = over_files(program, "serve", ["image", "digest", "noise"], room, at_once)
-        status = how(words, first_dialogue(with_numbers))
+        transcript = []
+        status = how(words, first_dialogue(with_numbers), transcript)
         if status != 0:
             return status
         print("\nThe same module once more: keys that are made, used and zeroised")
-        status = how(words, numbered_as(KEYS))
+        status = how(words, numbered_as(KEYS), [])
         if status != 0:
             return status
         print("\nThe same module for a person: each line that is typed, and the line that answers it")
@@ -266,7 +300,11 @@ def demo(program, with_numbers, at_once):
             return status
         write_file(room, "image", b"abd")
         print("\nAnd the module once more, where a byte of the image was changed")
-        return how(words, numbered_as(CHANGED))
+        status = how(words, numbered_as(CHANGED), [])
+        if status != 0:
+            return status
+        print("\nWas all of that lawful? A recorded dialogue is checked by whoever has it, without a module and without keys")
+        return check_dialogue(over_files(program, "check", [], room, at_once), transcript)
 
 
 def main(words):
