@@ -2,7 +2,7 @@
 import hashlib
 import hmac
 
-from machine import Machine, frame, served
+from machine import Engine, Machine, frame, served
 from machine_bodies import OTHER, Service, State, Status
 
 IMAGE = b"abc"
@@ -11,6 +11,8 @@ DIGEST = hmac.new(bytes(range(32)), IMAGE, hashlib.sha256).digest()
 NOISE = bytes(k % 256 for k in range(32_768))
 PASS, RESEED = 1_408, 256
 MOST_RESEEDS = (len(NOISE) - PASS) // RESEED
+# How many bytes of a stream come at a time: no divisor of a frame's length, so that frames are cut anywhere.
+STEP = 4_099
 
 
 def counted(length):
@@ -70,12 +72,16 @@ class Surprise(Exception):
 
 
 class Dialogue:
-    """Commands, and the replies that the model gives them. Without `strict` any status is taken."""
+    """Commands, and the replies that the model gives them. Without `strict` any status is taken.
+
+    It is had over so many samples of noise, once for each number of bytes that come at a time, over an engine with this fault.
+    """
 
     strict = True
 
-    def __init__(self):
-        self.machine = Machine(IMAGE, DIGEST, NOISE)
+    def __init__(self, samples=len(NOISE), steps=(STEP,), fault=()):
+        self.samples, self.steps, self.fault = samples, steps, fault
+        self.machine = Machine(IMAGE, DIGEST, NOISE[:samples], Engine(*fault))
         self.stream, self.replies, self.status = b"", b"", 0
 
     def ask(self, service, body=b"", status=Status.OK, sequence=None):

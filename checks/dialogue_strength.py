@@ -139,10 +139,11 @@ import ast, sys
 import machine
 image, digest, noise = (open(f"{sys.argv[1]}/data/{name}", "rb").read() for name in ("image", "digest", "noise"))
 digest = bytes.fromhex(digest.decode())
-for name, replies in ast.literal_eval(sys.stdin.read()):
+for name, samples, fault, replies in ast.literal_eval(sys.stdin.read()):
     stream = open(f"{sys.argv[1]}/data/{name}", "rb").read()
     try:
-        same = machine.served(machine.Machine(image, digest, noise), stream)[0] == replies
+        asked = machine.Machine(image, digest, noise[:samples], machine.Engine(*fault))
+        same = machine.served(asked, stream)[0] == replies
     except Exception:
         same = False
     if not same:
@@ -152,9 +153,9 @@ for name, replies in ast.literal_eval(sys.stdin.read()):
 
 
 def baseline():
-    """The dialogues with the model's replies, the short ones first."""
+    """The dialogues with their noise, their engine's fault and the model's replies, the short ones first."""
     had = [(name, of()) for name, of in dialogue.DIALOGUES.items()]
-    return [(name, d.replies) for name, d in sorted(had, key=lambda each: len(each[1].stream) + len(each[1].replies))]
+    return [(name, d.samples, d.fault, d.replies) for name, d in sorted(had, key=lambda each: len(each[1].stream) + len(each[1].replies))]
 
 
 def told(mistake, replies):

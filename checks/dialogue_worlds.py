@@ -10,7 +10,7 @@ import hmac
 from dataclasses import dataclass, field
 
 import machine_functions as functions
-from dialogue_bodies import Dialogue, Surprise, counted, derive, header, mac, random, seal, turned, unwrapping
+from dialogue_bodies import NOISE, PASS, STEP, Dialogue, Surprise, counted, derive, header, mac, random, seal, turned, unwrapping
 from machine_bodies import APPROVED, OTHER, BadBody, Kind, Service, Status, is_cryptographic, permits, read_request
 
 # The bytes that are entered in the first world, and in the other.
@@ -92,9 +92,9 @@ def may_differ(tainted, service, body, other_body):
 class Worlds(Dialogue):
     """The dialogue of the first world, and beside it that of the other."""
 
-    def __init__(self):
-        super().__init__()
-        self.other, self.tainted = Dialogue(), Tainted()
+    def __init__(self, samples=len(NOISE), steps=(STEP,), other_steps=(STEP,)):
+        super().__init__(samples, steps)
+        self.other, self.tainted = Dialogue(samples, other_steps), Tainted()
 
     def ask_both(self, service, body, statuses, other_body):
         """Asks in both worlds. The replies, and whether the command observes what is tainted."""
@@ -287,6 +287,49 @@ def entries():
     return w
 
 
+def keys_that_go():
+    """A MAC key and a derivation key, used and made zero with what was derived. The commands of each world are cut at other places."""
+    w = Worlds(PASS, (1,), (65_536,))
+    w.start()
+    w.enter_both(3, Kind.MAC)
+    w.enter_both(4, Kind.KDF)
+    w.user()
+    w.differ(Service.MAC, mac(3))
+    w.alike(Service.DERIVE, derive(4, 5, Kind.MAC, uses=10))
+    w.differ(Service.MAC, mac(5))
+    w.zeroise(3, 4, 5)
+    w.untainted()
+    w.alike(Service.RANDOM, random(32))
+    w.enter(3, Kind.AES)
+    w.user()
+    w.alike(Service.SEAL, seal(3, b"text"))
+    return w
+
+
+def another_text():
+    """The same in the other world, but for the last text. A text isn't secret: such a stream is of no world, and its last reply tells so."""
+    other = keys_that_go().other
+    d = Dialogue(PASS, (11,))
+    d.end(other.stream[:-1] + b"u")
+    sealed = 24 + 12 + len(b"text") + 16
+    assert d.replies[:-sealed] == other.replies[:-sealed] and d.replies[-sealed:] != other.replies[-sealed:]
+    return d
+
+
+def check_that_fails():
+    """A check value that is right in one world alone, and a slot that is empty in both then."""
+    w = Worlds(PASS, (65_536,), (7,))
+    w.start()
+    right, wrong = w.begin(3, Kind.MAC, KEYS)
+    w.differ(Service.ENTRY_COMMIT, right, (Status.OK, Status.CHECK_FAILED), other_body=turned(wrong))
+    w.differ(Service.SHOW_SLOT, b"\3")
+    w.zeroise(3)
+    w.untainted()
+    w.alike(Service.SHOW_SLOT, b"\3")
+    w.alike(Service.RANDOM, random(32))
+    return w
+
+
 WORLDS = {
     "worlds": macs,
     "worlds_of_a_tree": tree,
@@ -294,8 +337,11 @@ WORLDS = {
     "worlds_of_a_failing_unwrap": failing_unwrap,
     "worlds_of_checks": checks,
     "worlds_of_entries": entries,
+    "worlds_of_keys_that_go": keys_that_go,
+    "worlds_of_a_failing_check": check_that_fails,
 }
 DIALOGUES = {
     **{f"{name}_1": worlds for name, worlds in WORLDS.items()},
     **{f"{name}_2": lambda worlds=worlds: worlds().other for name, worlds in WORLDS.items()},
+    "another_text": another_text,
 }

@@ -1,18 +1,19 @@
 //! Stored dialogues with the module: a module is opened anew for each, and its replies go to standard output.
 //!
-//! The words are names of files, each with the commands of one dialogue. Image, digest and noise are the files `image`, `digest` and
-//! `noise`. Behind the replies to a dialogue stands a line with its name and its exit status.
+//! A word describes a dialogue: the name of a file with its commands. Image, digest and noise are the files `image`, `digest` and
+//! `noise`. Where it is had in another way, behind the name stand how many bytes come at a time and the noise's file; and behind these,
+//! where one call of the engine is wrong, its number, how many times it is right, and the bit that it turns then. All are parted by one
+//! space. Behind the replies to a dialogue stands a line with its description and its exit status.
 #![tactic(auto)]
 
-use engine_core::Shipped;
+use engine_core::{Engine, Faulty, Shipped};
 use module_top::run;
 use outside::{DiskFiles, Files, MemSource, StdSink};
 use std::env::{self, Env};
 use std::io;
 use std::process::ExitCode;
 
-// The words of `run`, for each dialogue.
-const SERVE: [&str; 4] = ["serve", "image", "digest", "noise"];
+const NOISE: &str = "noise";
 
 // More bytes than any dialogue has.
 const LONGEST: usize = 1_048_576;
@@ -22,10 +23,19 @@ const STEP: usize = 4_099;
 
 const COULD_NOT_BEGIN: u8 = 255;
 
-// Has one dialogue, and answers its exit status. None where its file can't be read, or memory is wanting.
-fn have(rt: &HostRuntime, name: &str) -> Option<u8> {
+// Has one dialogue, and answers its exit status. None where its file can't be read, no byte comes at a time, or memory is wanting.
+fn have<E: Engine>(
+    rt: &HostRuntime,
+    name: &str,
+    step: usize,
+    noise: &str,
+    engine: E,
+) -> Option<u8> {
+    if step == 0 {
+        return None;
+    }
     let mut words = Vec::new(rt.alloc());
-    for word in SERVE {
+    for word in ["serve", "image", "digest", noise] {
         words.push(String::from_str(rt.alloc(), word).ok()?).ok()?;
     }
     let mut files = DiskFiles::new(rt);
@@ -34,27 +44,54 @@ fn have(rt: &HostRuntime, name: &str) -> Option<u8> {
         rt.alloc(),
         &words,
         &mut files,
-        &mut MemSource::new(commands, STEP, Vec::new(rt.alloc())),
+        &mut MemSource::new(commands, step, Vec::new(rt.alloc())),
         &mut StdSink::new(rt.stdout()),
-        Shipped::new(),
+        engine,
     );
     Some(status)
 }
 
-fn names_of(rt: &HostRuntime) -> io::Result<Vec<String>> {
-    let names = env::args(rt)?.skip(1).collect(rt.alloc())?;
-    Ok(names)
+// The engine of which this call is right so many times, and then turns this bit.
+fn faulty(call: &str, right: &str, bit: &str) -> Option<Faulty> {
+    let call = call.parse::<u8>().ok()?;
+    let right = right.parse::<u32>().ok()?;
+    let bit = bit.parse::<u8>().ok()?;
+    if call > 9 || bit > 7 {
+        return None;
+    }
+    Some(Faulty::new(call, right, bit))
+}
+
+// Has the dialogue that is described.
+fn have_described(rt: &HostRuntime, description: &str) -> Option<u8> {
+    let mut words = description.split(' ');
+    let name = words.next()?;
+    let Some(step) = words.next() else {
+        return have(rt, name, STEP, NOISE, Shipped::new());
+    };
+    let step = step.parse::<usize>().ok()?;
+    let noise = words.next()?;
+    let Some(call) = words.next() else {
+        return have(rt, name, step, noise, Shipped::new());
+    };
+    let engine = faulty(call, words.next()?, words.next()?)?;
+    have(rt, name, step, noise, engine)
+}
+
+fn descriptions_of(rt: &HostRuntime) -> io::Result<Vec<String>> {
+    let descriptions = env::args(rt)?.skip(1).collect(rt.alloc())?;
+    Ok(descriptions)
 }
 
 fn main(rt: HostRuntime) -> ExitCode {
-    let Ok(names) = names_of(&rt) else {
+    let Ok(descriptions) = descriptions_of(&rt) else {
         return ExitCode::from(COULD_NOT_BEGIN);
     };
-    for name in names.iter() {
-        let Some(status) = have(&rt, name.as_str()) else {
+    for description in descriptions.iter() {
+        let Some(status) = have_described(&rt, description.as_str()) else {
             return ExitCode::from(COULD_NOT_BEGIN);
         };
-        if println!(rt; "{name} {status}").is_err() {
+        if println!(rt; "{description} {status}").is_err() {
             return ExitCode::from(COULD_NOT_BEGIN);
         }
     }

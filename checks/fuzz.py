@@ -1,0 +1,217 @@
+#!/usr/bin/env python3
+"""Gives the built program input that was changed at random, and looks at how it ends: a crash, a hang, a status or a text that the
+manual doesn't have, or memory that grows is a failure. What it answers isn't looked at: second_opinion.py and others do that.
+
+usage: fuzz.py PROGRAM [FIRST [COUNT]]
+
+A number makes one input, for `serve`, `operate` or `vectors` by turns. It is a stored stream of dialogue_program or line_program of
+which bits are turned, or whose frames or lines are left out, doubled and exchanged, or which is cut or joined to another one; or random
+bytes. Statuses and texts are those of the table in docs/INTERFACE.md, by the words that a row names. Before its input is written a run
+may take no more address space than one that waits for its first byte has and a little, so a run that takes memory later finds none, and
+ends with another status. (A child's peak as the system counts it would have that of Python.)
+
+Each of these was tried, and inputs 1 to 1,000 told it: row 3 or row 10 left out of the table, the text of row 4 changed, and for the
+program one that ends by a signal at a byte `ff`, one that never ends at the end of its input, and one that takes 1 MiB after its first byte.
+"""
+import os
+import random
+import re
+import resource
+import subprocess
+import sys
+import tempfile
+import time
+from concurrent.futures import ThreadPoolExecutor
+
+HERE = os.path.dirname(os.path.abspath(__file__))
+TOP = os.path.join(HERE, "..")
+MANUAL = os.path.join(TOP, "docs", "INTERFACE.md")
+DIALOGUES, LINES = (os.path.join(TOP, "crates", name, "data") for name in ("dialogue_program", "line_program"))
+SECONDS = 10
+AT_A_TIME = 2
+# The largest stream of the corpus: larger ones take long and are cut into the same frames.
+LARGEST = 12_000
+SEPARATOR = b"\x1e"
+# What a run may take beside what it has as it waits for its first byte.
+LITTLE = 64 * 1024
+
+
+class Wrong(Exception):
+    """A run ended as none may."""
+
+
+def content(path):
+    with open(path, "rb") as file:
+        return file.read()
+
+
+def table(word):
+    """The texts that the manual has for the ends of a word whose files are right and whose input can be read, by their statuses."""
+    texts = {}
+    for status, text, when in re.findall(r"^\| (\d+) \| (?:`(.*?)`)? ?\| (.*) \|$", content(MANUAL).decode(), re.MULTILINE):
+        words = [name for named in re.findall(r"((?:`\w+`, )*`\w+`):", when) for name in re.findall(r"\w+", named)]
+        if word in words:
+            texts[int(status)] = text.encode() + b"\n" if text else b""
+    return texts
+
+
+def frames(stream):
+    """The frames of a stream, and what stands behind the last whole one."""
+    cut = []
+    while len(stream) >= 8:
+        end = (12 if stream[1] == 2 else 8) + int.from_bytes(stream[4:8], "big")
+        cut.append(stream[:end])
+        stream = stream[end:]
+    return cut + [stream]
+
+
+def lines(stream):
+    return stream.splitlines(keepends=True) or [b""]
+
+
+def described(crate):
+    """The words of each line that describes stored runs."""
+    return [line.split(" ") for line in content(os.path.join(TOP, "crates", crate, "args")).decode().splitlines()]
+
+
+def corpus(word):
+    """The stored streams for a word: (what cuts them into parts, the streams)."""
+    if word == "serve":
+        cut, paths = frames, [os.path.join(DIALOGUES, words[0]) for words in described("dialogue_program")]
+    else:
+        cut, paths = lines, [os.path.join(LINES, words[0]) for words in described("line_program") if words[1:2] == [word]]
+    streams = [stream for path in dict.fromkeys(paths) for stream in (content(path).split(SEPARATOR) if cut == lines else [content(path)])]
+    return cut, [stream for stream in streams if len(stream) <= LARGEST]
+
+
+# Ways to change a stream. Each has the generator, the stream, what cuts it into parts, and another stream.
+
+
+def bits(rng, stream, cut, other):
+    changed = bytearray(stream)
+    for _ in range(rng.choice((1, 1, 2, 8))):
+        if changed:
+            changed[rng.randrange(len(changed))] ^= 1 << rng.randrange(8)
+    return bytes(changed)
+
+
+def some_bytes(rng, stream, cut, other):
+    at = rng.randrange(len(stream) + 1)
+    return stream[:at] + rng.randbytes(rng.randint(1, 40)) + stream[at + rng.choice((0, 1, 20)) :]
+
+
+def left_out(rng, stream, cut, other):
+    parts = cut(stream)
+    del parts[rng.randrange(len(parts))]
+    return b"".join(parts)
+
+
+def doubled(rng, stream, cut, other):
+    parts = cut(stream)
+    at = rng.randrange(len(parts))
+    return b"".join(parts[: at + 1] + parts[at : at + 1] * rng.choice((1, 1, 5)) + parts[at + 1 :])
+
+
+def exchanged(rng, stream, cut, other):
+    parts = cut(stream)
+    one, another = rng.randrange(len(parts)), rng.randrange(len(parts))
+    parts[one], parts[another] = parts[another], parts[one]
+    return b"".join(parts)
+
+
+def cut_off(rng, stream, cut, other):
+    return stream[: rng.randrange(len(stream) + 1)]
+
+
+def crossed(rng, stream, cut, other):
+    parts, others = cut(stream), cut(other)
+    return b"".join(parts[: rng.randrange(len(parts) + 1)] + others[rng.randrange(len(others)) :])
+
+
+CHANGES = (bits, bits, some_bytes, left_out, doubled, exchanged, cut_off, crossed)
+
+
+def made(number, kinds):
+    """The word and the input of a number."""
+    rng = random.Random(number)
+    word = list(kinds)[number % len(kinds)]
+    cut, streams = kinds[word]
+    if rng.random() < 0.05:
+        return word, rng.randbytes(rng.randint(0, 300))
+    stream = rng.choice(streams)
+    for _ in range(rng.randint(1, 4)):
+        stream = rng.choice(CHANGES)(rng, stream, cut, rng.choice(streams))
+    return word, stream
+
+
+class Runner:
+    def __init__(self, program):
+        named = [os.path.join(DIALOGUES, name) for name in ("image", "digest", "noise")]
+        self.words = {"serve": [program, "serve", *named], "operate": [program, "operate", *named], "vectors": [program, "vectors"]}
+        self.texts = {word: table(word) for word in self.words}
+        self.most = {word: self.space(word) + LITTLE for word in self.words}
+
+    def begun(self, word, output):
+        # Replies go to a file, so that nobody has to read them while the input is written.
+        return subprocess.Popen(self.words[word], stdin=subprocess.PIPE, stdout=output, stderr=subprocess.PIPE)
+
+    def space(self, word):
+        """The address space of a run that waits for its first byte."""
+        with self.begun(word, subprocess.DEVNULL) as process:
+            seen, still = 0, 0
+            while still < 20:
+                time.sleep(0.01)
+                now = int(re.search(r"VmPeak:\s*(\d+) kB", content(f"/proc/{process.pid}/status").decode()).group(1)) * 1024
+                still = still + 1 if now == seen and waits(process.pid) else 0
+                seen = now
+            process.stdin.close()
+        return seen
+
+    def run(self, word, stream):
+        with tempfile.TemporaryFile() as output, self.begun(word, output) as process:
+            resource.prlimit(process.pid, resource.RLIMIT_AS, (self.most[word], self.most[word]))
+            try:
+                _, text = process.communicate(stream, timeout=SECONDS)
+            except subprocess.TimeoutExpired:
+                process.kill()
+                raise Wrong(f"it doesn't end within {SECONDS} seconds") from None
+        status = process.returncode
+        if status not in self.texts[word]:
+            raise Wrong(f"it ends with {status}, and writes {text!r} to standard error")
+        if text != self.texts[word][status]:
+            raise Wrong(f"with status {status} it writes {text!r} to standard error")
+        return status
+
+
+def waits(pid):
+    """Whether a process sleeps."""
+    return content(f"/proc/{pid}/stat").rpartition(b")")[2].split()[0] == b"S"
+
+
+def main(program, first=1, count=1_000):
+    runner = Runner(program)
+    kinds = {word: corpus(word) for word in runner.words}
+    ends = {}
+
+    def try_one(number):
+        word, stream = made(number, kinds)
+        try:
+            return word, runner.run(word, stream)
+        except Wrong as wrong:
+            raise Wrong(f"input {number}, for {word}: {wrong}; python3 -B checks/fuzz.py {program} {number} 1") from None
+
+    with ThreadPoolExecutor(AT_A_TIME) as pool:
+        try:
+            for end in pool.map(try_one, range(first, first + count)):
+                ends[end] = ends.get(end, 0) + 1
+        except Wrong as wrong:
+            pool.shutdown(cancel_futures=True)
+            print(f"fuzz: FAILED: {wrong}")
+            return 1
+    told = ", ".join(f"{word} {status}: {ends[word, status]}" for word, status in sorted(ends))
+    print(f"fuzz: passed: {count} inputs, from {first} on; they ended as {told}")
+    return 0
+
+
+if __name__ == "__main__":
+    sys.exit(main(sys.argv[1], *map(int, sys.argv[2:4])))
