@@ -1,11 +1,8 @@
 use Rattle.std.proofs.Common.{◌≡◌, subst}
 use Rattle.state_model.specs.ModuleView.{ModuleView}
 use Rattle.state_model.specs.ModuleInvariant.{view_of}
-use Rattle.state_model.specs.MachineState.{MachineState}
-use Rattle.state_model.specs.Represents.{Represents}
-use Rattle.state_model.specs.Copies.{restored_state, restored_view}
+use Rattle.state_model.specs.Copies.{restored_view}
 use Rattle.state_model.proofs.Representing.{rules_here}
-use Rattle.state_model.proofs.Residues.{clean_of}
 use Rattle.state_model.proofs.Restored.{rows_stay, others_stay, restored_represents}
 use Rattle.state_model.proofs.module.Module.restore.Goals as goal
 
