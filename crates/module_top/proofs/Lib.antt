@@ -6,5 +6,6 @@ pub mod WorkOutcomes
 pub mod OneOutput
 pub mod RunOutcomes
 pub mod ReportOutcomes
+pub mod TranscriptOutcomes
 pub mod WorkSecrets
 pub mod SecretOutputs

@@ -4,7 +4,7 @@ use Rattle.outside.specs.declared.traits.Sample.{Sample}
 use Rattle.outside.specs.FilesContent.{FilesContent, HasFile, HasFileAbove}
 use Rattle.module_top.specs.DigestFile.{digest_of}
 use Rattle.module_top.specs.declared.words.Work.{Work}
-use Rattle.module_top.specs.Forms.{FormValue, OnModule, Digest, Vectors}
+use Rattle.module_top.specs.Forms.{FormValue, OnModule, Digest, Vectors, Check}
 use Rattle.module_top.specs.Program.{HasNoise, WithImage, WithDigest, IsRefused}
 use Rattle.module_top.specs.Outcomes.{HasLongImage, HasBadDigest}
 use Rattle.module_top.specs.declared.limits.TheConstants.{LARGEST_IMAGE}
@@ -32,6 +32,7 @@ pub long_first : (files : FilesContent) (form : FormValue) → HasLongImage file
 long_first files (OnModule work image digest noise) long bad = not_above files image bad.0 bad.1 bad.2 long
 long_first files (Digest image) long bad = bad
 long_first files Vectors long bad = bad
+long_first files Check long bad = bad
 
 -- a digest file that is of its form is none that isn't
 pub not_bad : (files : FilesContent) (work : Work) (image_name digest_name noise_name text digest : List ℕ) → HasFile files digest_name text → digest_of text ≡ Some digest

@@ -8,10 +8,11 @@ use Rattle.command_serving.specs.FrameGrammar.{frame_grammar, frame_grammar_is_l
 use Rattle.command_serving.proofs.OneRun.{one_stream}
 use Rattle.line_serving.proofs.LineRuns.{one_lines}
 use Rattle.vector_reports.proofs.OneReport.{one_report}
+use Rattle.transcript_report.proofs.OneVerdict.{one_verdict}
 use Rattle.module_top.specs.declared.words.Work.{Work}
 use Rattle.module_top.specs.declared.words.Work.TheVariants as work
-use Rattle.module_top.specs.Forms.{FormValue, OnModule, Digest, Vectors, form_of}
-use Rattle.module_top.specs.Program.{report_status, HasNoise, IsOutputOf, HasOneOutput}
+use Rattle.module_top.specs.Forms.{FormValue, OnModule, Digest, Vectors, Check, form_of}
+use Rattle.module_top.specs.Program.{check_status, report_status, HasNoise, IsOutputOf, HasOneOutput}
 use Rattle.module_top.specs.Works.{exit_status, line_status, RunsWork}
 use Rattle.module_top.proofs.NamedFiles.{one_noise, one_with_image, one_with_digest}
 
@@ -49,6 +50,9 @@ one_of_form calls engine (Some (Digest image_name)) files bytes status status' o
 one_of_form calls engine (Some Vectors) files bytes status status' out out' (answer, is, runs) (answer', is', runs') =
     let same = one_report calls engine bytes answer answer' out out' runs runs' in
     (is ∙ ap report_status same.0 ∙ sym is', same.1)
+one_of_form calls engine (Some Check) files bytes status status' out out' (answer, is, runs) (answer', is', runs') =
+    let same = one_verdict bytes answer answer' out out' runs runs' in
+    (is ∙ ap check_status same.0 ∙ sym is', same.1)
 
 pub one_output : {V : Type 0} (calls : Calls V) → HasOneOutput calls
 one_output calls engine words files bytes status status' out out' one other = one_of_form calls engine (form_of words) files bytes status status' out out' one other

@@ -53,7 +53,7 @@ writes_stay reported.WriteFault before after left h = absurd (h refl)
 writes_stay reported.Limit before after left h = left
 
 -- a fact about all files
-any_files : {Q : FilesContent → Type 0} (files : Option FilesContent) → ((all : FilesContent) → Q all) → IfSome files Q
+pub any_files : {Q : FilesContent → Type 0} (files : Option FilesContent) → ((all : FilesContent) → Q all) → IfSome files Q
 any_files None each = tt
 any_files (Some all) each = each all
 

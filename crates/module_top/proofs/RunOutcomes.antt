@@ -15,13 +15,14 @@ use Rattle.module_top.specs.declared.limits.TheConstants.{LARGEST_IMAGE}
 use Rattle.module_top.specs.declared.words.Work.{Work}
 use Rattle.module_top.specs.DigestFile.{digest_of}
 use Rattle.module_top.specs.Faults.{status_of}
-use Rattle.module_top.specs.Forms.{FormValue, OnModule, Digest, Vectors}
-use Rattle.module_top.specs.Program.{report_status, digest_line, HasNoise, IsRefused, IsOutputOf}
+use Rattle.module_top.specs.Forms.{FormValue, OnModule, Digest, Vectors, Check}
+use Rattle.module_top.specs.Program.{check_status, report_status, digest_line, HasNoise, IsRefused, IsOutputOf}
 use Rattle.module_top.specs.Works.{RunsWork, LeavesWork}
 use Rattle.module_top.specs.Outcomes.{is_refusal, reads_source, work_reads, HasLongImage, HasBadDigest, IsWorkedOn, IsDigested, IsWorkOf, ReadsStay, Outside, IsWorkOutcome, IsOutcome, ImageRefused, DigestRefused}
 use Rattle.module_top.proofs.NamedFiles.{not_above, long_first, not_bad}
 use Rattle.vector_reports.specs.declared.reporting.Reported.{Reported}
 use Rattle.vector_reports.proofs.VectorRuns.{vectors_of}
+use Rattle.transcript_report.proofs.VerdictRuns.{verdict_of}
 use Rattle.module_top.proofs.WorkRuns.{work_of}
 
 -- where files tell, a fact about them gives another
@@ -303,6 +304,9 @@ work_output calls engine files (Some (Digest image_name)) status bytes gained af
 work_output calls engine files (Some Vectors) status bytes gained after (answer, last, is, reports) no_read no_write =
     let made = vectors_of calls answer CHUNK engine last bytes gained after reports (λ e. no_read (is ∙ ap report_status e)) (λ e. no_write (is ∙ ap report_status e)) in
     (made.0, (answer, is, made.1), made.2)
+work_output calls engine files (Some Check) status bytes gained after (answer, is, checks) no_read no_write =
+    let made = verdict_of answer CHUNK bytes gained after checks (λ e. no_read (is ∙ ap check_status e)) (λ e. no_write (is ∙ ap check_status e)) in
+    (made.0, (answer, is, made.1), made.2)
 
 -- the refusals that aren't a failed call or want of memory
 refusals : (status : ℕ) → is_refusal status ≡ true → status ≢ 7 → status ≢ 8 → (status ≡ 2) ⊎ ((status ≡ 9) ⊎ (status ≡ 11))
@@ -326,6 +330,7 @@ refusal_output {V} calls engine files of status bytes why no_form long bad =
     long_output (Some (OnModule work image_name digest_name noise_name)) h nine = inl (h, (nine, refl))
     long_output (Some (Digest image_name)) h nine = inl (h, (nine, refl))
     long_output (Some Vectors) h nine = absurd h
+    long_output (Some Check) h nine = absurd h
 
     bad_output : (f : Option FormValue) → HasBadDigest files f → status ≡ 11 → IsOutputOf calls engine f files bytes status []
     bad_output None h eleven = absurd h
@@ -335,6 +340,7 @@ refusal_output {V} calls engine files of status bytes why no_form long bad =
         inr (h.0, h.1, h.2, (h.3, h.4, subst Spells (sym h.5) (eleven, refl)))
     bad_output (Some (Digest image_name)) h eleven = absurd h
     bad_output (Some Vectors) h eleven = absurd h
+    bad_output (Some Check) h eleven = absurd h
 
 -- the program's output, from what a run leaves
 pub program_output : {V S K : Type 0} (calls : Calls V) (engine : V) (files : FilesContent) (of : Option FormValue) (status : ℕ) (before after : Outside S K) (bytes gained : List ℕ)

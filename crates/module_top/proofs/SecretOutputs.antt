@@ -8,7 +8,7 @@ use Rattle.state_model.specs.MachineState.{MachineState, initial_state}
 use Rattle.module_top.specs.declared.limits.TheConstants.{LARGEST_IMAGE}
 use Rattle.module_top.specs.declared.words.Work.{Work}
 use Rattle.module_top.specs.DigestFile.{digest_of}
-use Rattle.module_top.specs.Forms.{FormValue, OnModule, Digest, Vectors, form_of}
+use Rattle.module_top.specs.Forms.{FormValue, OnModule, Digest, Vectors, Check, form_of}
 use Rattle.module_top.specs.Outcomes.{is_refusal}
 use Rattle.module_top.specs.Program.{HasNoise, IsRefused, IsOutputOf, IsProgramOutput}
 use Rattle.module_top.specs.Secrets.{WorkKeepsSecrets, OutputKeepsSecrets, written_replies}
@@ -68,6 +68,7 @@ output_keeps {V} calls plain engine words files bytes status out output = by_for
     by_form None is output = tt
     by_form (Some (Digest image_name)) is output = tt
     by_form (Some Vectors) is output = tt
+    by_form (Some Check) is output = tt
     by_form (Some (OnModule w image_name digest_name noise_name)) is output = λ done. elim output [
       | inl long ↦ absurd (not_refused 9 status long.1.0 refl done)
       | inr loaded ↦

@@ -17,6 +17,7 @@ fault_of status =
     else if status == 10 then Some fault.BadLine
     else if status == 11 then Some fault.BadDigest
     else if status == 12 then Some fault.StreamTooLong
+    else if status == 16 then Some fault.NotLawful
     else None
 
 -- the exit status for a fault
@@ -33,6 +34,7 @@ status_of fault.ImageTooLong = 9
 status_of fault.BadLine = 10
 status_of fault.BadDigest = 11
 status_of fault.StreamTooLong = 12
+status_of fault.NotLawful = 16
 
 -- the exit status for how a run ended: 0 where all was done
 abbrev pub result_status : {X : Type 0} → Result X RunFault → ℕ
@@ -41,7 +43,7 @@ result_status (Err fault) = status_of fault
 
 abbrev pub text_of : RunFault → List ℕ
 text_of fault.VectorFailed = codes "a vector failed"
-text_of fault.Usage = codes "usage: serve, operate, digest, session or vectors"
+text_of fault.Usage = codes "usage: serve, operate, digest, session, vectors or check"
 text_of fault.BadFrame = codes "bad frame"
 text_of fault.Truncated = codes "truncated frame"
 text_of fault.ReadFailed = codes "read failed"
@@ -52,3 +54,4 @@ text_of fault.ImageTooLong = codes "image too long"
 text_of fault.BadLine = codes "bad line"
 text_of fault.BadDigest = codes "bad digest file"
 text_of fault.StreamTooLong = codes "stream too long"
+text_of fault.NotLawful = codes "not lawful"

@@ -14,11 +14,13 @@ pub data FormValue : Type 0 where
   OnModule : (work : Work) (image digest noise : List ℕ) → FormValue
   Digest : (image : List ℕ) → FormValue
   Vectors : FormValue
+  Check : FormValue
 
 abbrev pub form_value : Form → FormValue
 form_value (form.OnModule work image digest noise) = OnModule work image.now digest.now noise.now
 form_value (form.Digest image) = Digest image.now
 form_value form.Vectors = Vectors
+form_value form.Check = Check
 
 -- the number that a word spells in decimal digits, with no sign and no leading zero, where it isn't above the most
 abbrev pub spelled_number : ℕ → List ℕ → Option ℕ
@@ -40,15 +42,19 @@ abbrev pub session_work : (word seed count : List ℕ) → Option Work
 session_work word seed count =
     if bytes_eq word (codes "session") then session_of (spelled_number LARGEST_SEED seed) (spelled_number LARGEST_COUNT count) else None
 
+-- the form of one word alone
+abbrev pub single_form : List ℕ → Option FormValue
+single_form word = if bytes_eq word (codes "vectors") then Some Vectors else if bytes_eq word (codes "check") then Some Check else None
+
 -- a work on the module with image, digest and noise of these names
 abbrev pub on_module : (image digest noise : List ℕ) → Option Work → Option FormValue
 on_module image digest noise found = option_map (λ work. OnModule work image digest noise) found
 
 -- The form of the words, where they have one: `serve IMAGE DIGEST NOISE`, `operate IMAGE DIGEST NOISE`, `digest IMAGE`,
--- `session SEED COUNT IMAGE DIGEST NOISE` or `vectors`. Any other words are a faulty command line.
+-- `session SEED COUNT IMAGE DIGEST NOISE`, `vectors` or `check`. Any other words are a faulty command line.
 abbrev pub form_of : List (List ℕ) → Option FormValue
 form_of [] = None
-form_of (word ∷ []) = if bytes_eq word (codes "vectors") then Some Vectors else None
+form_of (word ∷ []) = single_form word
 form_of (word ∷ image ∷ []) = if bytes_eq word (codes "digest") then Some (Digest image) else None
 form_of (word ∷ image ∷ digest ∷ []) = None
 form_of (word ∷ image ∷ digest ∷ noise ∷ []) = on_module image digest noise (stream_work word)

@@ -7,6 +7,8 @@ use Rattle.outside.specs.FilesContent.{FilesContent, HasFile, HasFileAbove}
 use Rattle.outside.specs.declared.traits.Sample.{Sample}
 use Rattle.stream_calls.specs.declared.limits.TheConstants.{CHUNK}
 use Rattle.stream_calls.specs.Streams.{Streams}
+use Rattle.transcript_report.specs.declared.checking.Checked.{Checked}
+use Rattle.transcript_report.specs.Checks.{Checks}
 use Rattle.vector_reports.specs.declared.reporting.Reported.{Reported}
 use Rattle.vector_reports.specs.Reporting.{Reports}
 use Rattle.state_model.specs.ModuleView.{ModuleView}
@@ -17,8 +19,8 @@ use Rattle.module_top.specs.declared.limits.TheConstants.{LARGEST_IMAGE}
 use Rattle.module_top.specs.declared.words.Work.{Work}
 use Rattle.module_top.specs.declared.words.Work.TheVariants as work
 use Rattle.module_top.specs.DigestFile.{digest_of}
-use Rattle.module_top.specs.Forms.{FormValue, OnModule, Digest, Vectors}
-use Rattle.module_top.specs.Program.{report_status, digest_line, HasNoise}
+use Rattle.module_top.specs.Forms.{FormValue, OnModule, Digest, Vectors, Check}
+use Rattle.module_top.specs.Program.{check_status, report_status, digest_line, HasNoise}
 use Rattle.module_top.specs.Works.{LeavesWork, WritesText}
 
 -- the statuses of a run whose work didn't begin: usage, memory, a failed file, an image that is too long, a bad digest file
@@ -35,6 +37,7 @@ abbrev pub reads_source : FormValue → Bool
 reads_source (OnModule work image digest noise) = work_reads work
 reads_source (Digest image) = false
 reads_source Vectors = true
+reads_source Check = true
 
 -- the image that the words name is too long
 abbrev pub HasLongImage : FilesContent → Option FormValue → Type 0
@@ -42,6 +45,7 @@ HasLongImage files None = ⊥
 HasLongImage files (Some (OnModule work image digest noise)) = HasFileAbove files image LARGEST_IMAGE
 HasLongImage files (Some (Digest image)) = HasFileAbove files image LARGEST_IMAGE
 HasLongImage files (Some Vectors) = ⊥
+HasLongImage files (Some Check) = ⊥
 
 -- the image that the words name isn't too long, and the digest file isn't of its form
 abbrev pub HasBadDigest : FilesContent → Option FormValue → Type 0
@@ -50,6 +54,7 @@ HasBadDigest files (Some (OnModule work image_name digest_name noise)) =
     (image : List ℕ) × HasFile files image_name image × (length image ≤ LARGEST_IMAGE) × (text : List ℕ) × HasFile files digest_name text × (digest_of text ≡ None)
 HasBadDigest files (Some (Digest image)) = ⊥
 HasBadDigest files (Some Vectors) = ⊥
+HasBadDigest files (Some Check) = ⊥
 
 -- The work was done on a module with the image, digest and noise that were loaded. Where the files tell, they are those of the names.
 pub record IsWorkedOn {V : Type 0} (work : Work) (calls : Calls V) (engine : V) (files : Option FilesContent) (image_name digest_name noise_name : List ℕ) (status : ℕ) (before after : Streams) : Type 0 where
@@ -78,6 +83,7 @@ IsWorkOf calls engine files (Some (OnModule work image digest noise)) status bef
 IsWorkOf calls engine files (Some (Digest image)) status before after = IsDigested calls engine files image status before.gained after.gained
 IsWorkOf {V} calls engine files (Some Vectors) status before after =
     (answer : Reported) × (last : V) × (status ≡ report_status answer) × Reports calls answer CHUNK engine last before after
+IsWorkOf calls engine files (Some Check) status before after = (answer : Checked) × (status ≡ check_status answer) × Checks answer CHUNK before after
 
 -- the reads that failed are those of before, but where a failed write of a report came after a failed read
 abbrev pub ReadsStay : Option FormValue → (status before after : ℕ) → Type 0

@@ -6,12 +6,15 @@ use Rattle.outside.specs.declared.traits.Sample.{Sample}
 use Rattle.outside.specs.FilesContent.{FilesContent, HasFile, HasFileAbove, first_named}
 use Rattle.self_tests.specs.Integrity.{image_digest}
 use Rattle.state_model.specs.MachineState.{initial_state}
+use Rattle.transcript_report.specs.declared.checking.Checked.{Checked}
+use Rattle.transcript_report.specs.declared.checking.Checked.TheVariants as checked
+use Rattle.transcript_report.specs.Verdicts.{IsVerdict}
 use Rattle.vector_reports.specs.declared.reporting.Reported.{Reported}
 use Rattle.vector_reports.specs.declared.reporting.Reported.TheVariants as reported
 use Rattle.vector_reports.specs.Runs.{RunsVectors}
 use Rattle.module_top.specs.declared.limits.TheConstants.{LARGEST_IMAGE}
 use Rattle.module_top.specs.DigestFile.{digest_of}
-use Rattle.module_top.specs.Forms.{FormValue, OnModule, Digest, Vectors, form_of}
+use Rattle.module_top.specs.Forms.{FormValue, OnModule, Digest, Vectors, Check, form_of}
 use Rattle.module_top.specs.Works.{RunsWork}
 
 -- the exit status for how a report ended
@@ -22,6 +25,16 @@ report_status reported.ReadFault = 5
 report_status reported.WriteFault = 6
 report_status (reported.BadLine number) = 10
 report_status reported.Limit = 12
+
+-- the exit status for how a transcript was checked
+abbrev pub check_status : Checked → ℕ
+check_status checked.Lawful = 0
+check_status (checked.BadFrame place) = 3
+check_status checked.Truncated = 4
+check_status checked.ReadFault = 5
+check_status checked.WriteFault = 6
+check_status checked.Limit = 12
+check_status (checked.Unlawful number) = 16
 
 -- the line of an image's digest: 64 lower-case hex digits and an LF
 abbrev pub digest_line : {V : Type 0} → Calls V → V → (image : List ℕ) → List ℕ
@@ -54,6 +67,7 @@ IsOutputOf calls engine (Some (OnModule work image_name digest_name noise_name))
 IsOutputOf calls engine (Some (Digest image_name)) files bytes status out =
     WithImage files image_name status out (λ image. (status ≡ 0) × (out ≡ digest_line calls engine image))
 IsOutputOf calls engine (Some Vectors) files bytes status out = (answer : Reported) × (status ≡ report_status answer) × RunsVectors calls engine bytes answer out
+IsOutputOf calls engine (Some Check) files bytes status out = (answer : Checked) × (status ≡ check_status answer) × IsVerdict bytes answer out
 
 -- The status and the written bytes, with an engine, for words, files and input, where no call fails and memory is found.
 abbrev pub IsProgramOutput : {V : Type 0} → Calls V → V → List (List ℕ) → FilesContent → List ℕ → ℕ → List ℕ → Type 0

@@ -18,7 +18,7 @@ use Rattle.line_serving.specs.LineSecrets.{AreVariantLines}
 use Rattle.module_top.specs.declared.words.Work.{Work}
 use Rattle.module_top.specs.declared.words.Work.TheVariants as work
 use Rattle.module_top.specs.DigestFile.{digest_of}
-use Rattle.module_top.specs.Forms.{FormValue, OnModule, Digest, Vectors}
+use Rattle.module_top.specs.Forms.{FormValue, OnModule, Digest, Vectors, Check}
 use Rattle.module_top.specs.Outcomes.{is_refusal}
 use Rattle.module_top.specs.Program.{HasNoise, IsProgramOutput}
 
@@ -64,10 +64,11 @@ WorkKeepsSecrets work calls engine words files image_name digest_name noise_name
     × ((other : List ℕ) (pairs : List CommandPair) → AreVariants work calls (initial_state engine image digest) events bytes other pairs
     → OutputsAlike work calls engine words files (initial_state engine image digest) events other pairs status out)
 
--- A run on a module that isn't refused keeps its secrets. `digest` and `vectors` have none.
+-- A run on a module that isn't refused keeps its secrets. `digest`, `vectors` and `check` have none.
 abbrev pub OutputKeepsSecrets : {V : Type 0} → Calls V → V → List (List ℕ) → Option FormValue → FilesContent → List ℕ → ℕ → List ℕ → Type 0
 OutputKeepsSecrets calls engine words None files bytes status out = Unit {0}
 OutputKeepsSecrets calls engine words (Some (OnModule work image_name digest_name noise_name)) files bytes status out =
     is_refusal status ≡ false → WorkKeepsSecrets work calls engine words files image_name digest_name noise_name bytes status out
 OutputKeepsSecrets calls engine words (Some (Digest image_name)) files bytes status out = Unit {0}
 OutputKeepsSecrets calls engine words (Some Vectors) files bytes status out = Unit {0}
+OutputKeepsSecrets calls engine words (Some Check) files bytes status out = Unit {0}

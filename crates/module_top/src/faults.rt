@@ -31,6 +31,8 @@ pub enum RunFault {
     BadDigest,
     /// 12: the input has 2^40 bytes or more.
     StreamTooLong,
+    /// 16: a pair of the transcript isn't a lawful step.
+    NotLawful,
 }
 
 impl RunFault {
@@ -51,6 +53,7 @@ impl RunFault {
             10 => Some(RunFault::BadLine),
             11 => Some(RunFault::BadDigest),
             12 => Some(RunFault::StreamTooLong),
+            16 => Some(RunFault::NotLawful),
             _ => None,
         }
     }
@@ -72,6 +75,7 @@ impl RunFault {
             RunFault::BadLine => 10,
             RunFault::BadDigest => 11,
             RunFault::StreamTooLong => 12,
+            RunFault::NotLawful => 16,
         }
     }
 }
@@ -86,7 +90,7 @@ impl fmt::Display for RunFault {
     fn fmt<W: fmt::Write>(&self, f: &mut fmt::Formatter<W>) -> fmt::Result {
         f.write_str(match self {
             RunFault::VectorFailed => "a vector failed",
-            RunFault::Usage => "usage: serve, operate, digest, session or vectors",
+            RunFault::Usage => "usage: serve, operate, digest, session, vectors or check",
             RunFault::BadFrame => "bad frame",
             RunFault::Truncated => "truncated frame",
             RunFault::ReadFailed => "read failed",
@@ -97,6 +101,7 @@ impl fmt::Display for RunFault {
             RunFault::BadLine => "bad line",
             RunFault::BadDigest => "bad digest file",
             RunFault::StreamTooLong => "stream too long",
+            RunFault::NotLawful => "not lawful",
         })
     }
 }

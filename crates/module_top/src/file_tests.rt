@@ -94,7 +94,7 @@ fn status(alloc: Global, words: &[&str], digest: &[u8], fail: &[u64]) -> Result<
 
 #[test]
 fn knows_no_other_words(rt: HostRuntime) -> Result<(), Fail> {
-    let rows: [&[&str]; 25] = [
+    let rows: [&[&str]; 27] = [
         &[],
         &["serve"],
         &["serve", "image"],
@@ -109,6 +109,8 @@ fn knows_no_other_words(rt: HostRuntime) -> Result<(), Fail> {
         &["operate", "image", "digest"],
         &["vectors", "image"],
         &["Vectors"],
+        &["check", "image"],
+        &["Check"],
         &["session", "7", "0"],
         &["session", "7", "0", "image", "digest"],
         &["session", "7", "0", "image", "digest", "noise", "noise"],

@@ -1,6 +1,9 @@
 //! From bytes to bytes: a stream of commands is served, and the program runs on its words.
 #![tactic(auto)]
 
+#[cfg(test)]
+mod check_run_tests;
+mod checking;
 mod digest_file;
 mod digesting;
 mod faults;

@@ -10,6 +10,7 @@ ghost use Rattle.module_top.specs.Program.{IsProgramOutput};
 ghost use Rattle.module_top.specs.Outcomes.{is_refusal, reads_source, HasLongImage, HasBadDigest, IsWorkOf, IsOutcome, ReadsStay};
 ghost use Rattle.module_top.specs.Secrets.{OutputKeepsSecrets};
 
+use crate::checking::check_pairs;
 use crate::digesting::digest_image;
 use crate::faults::RunFault;
 use crate::loading::{load_digest, load_image, open_noise};
@@ -100,6 +101,7 @@ fn perform<E: Engine, F: Files, S: Source, K: Sink>(
         ),
         Some(Form::Digest { image }) => digest_image(alloc, image, files, replies, engine),
         Some(Form::Vectors) => check_vectors(alloc, commands, replies, engine),
+        Some(Form::Check) => check_pairs::<E, S, K>(alloc, commands, replies),
     }
 }
 
@@ -118,6 +120,8 @@ fn status_of(ended: Result<(), RunFault>) -> u8
 /// `serve IMAGE DIGEST NOISE`: commands come from the source, and their replies go to the sink. The module has the image, the digest that
 /// the digest file spells, and the noise. `digest IMAGE`: the image's digest goes to the sink, as 64 lower-case hex digits and an LF. The
 /// image has at most 16,777,216 bytes, the digest file 64 hex digits of either case and at most one LF behind them.
+/// `check`: a transcript comes from the source, each command's frame with its reply's behind it. Where all pairs are lawful steps, `lawful`
+/// and their number go to the sink, else `pair` and the number of the first that isn't, counted from 1.
 ///
 /// Words, image, digest file and noise are looked at in this order, and then memory is taken, before anything is read or written.
 pub fn run<E: Engine, F: Files, S: Source, K: Sink>(

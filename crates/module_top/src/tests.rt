@@ -6,7 +6,7 @@ use std::test::Fail;
 fn tells_each_fault(rt: HostRuntime) -> Result<(), Fail> {
     let rows = [
         (1, "a vector failed"),
-        (2, "usage: serve, operate, digest, session or vectors"),
+        (2, "usage: serve, operate, digest, session, vectors or check"),
         (3, "bad frame"),
         (4, "truncated frame"),
         (5, "read failed"),
@@ -17,6 +17,7 @@ fn tells_each_fault(rt: HostRuntime) -> Result<(), Fail> {
         (10, "bad line"),
         (11, "bad digest file"),
         (12, "stream too long"),
+        (16, "not lawful"),
     ];
     for (status, text) in rows {
         let fault = RunFault::of(status).ok_or("a fault")?;

@@ -33,9 +33,11 @@ pub enum Form<'a> {
     },
     /// `vectors`: vector lines come from the source, and their report goes to the sink.
     Vectors,
+    /// `check`: a transcript comes from the source, and the verdict on it goes to the sink.
+    Check,
 }
 
-ghost use Rattle.module_top.specs.Forms.{Digest, Vectors, form_of, form_value, on_module, session_work, spelled_number, stream_work};
+ghost use Rattle.module_top.specs.Forms.{Digest, form_of, form_value, on_module, session_work, single_form, spelled_number, stream_work};
 
 // The number that a word spells.
 fn spelled_number(word: &[u8], most: u64) -> Option<u64>
@@ -96,13 +98,14 @@ fn digest_form<'a>(word: &str, image: &'a str) -> Option<Form<'a>>
     }
 }
 
-fn vectors_form<'a>(word: &str) -> Option<Form<'a>>
-    ensures { option_map form_value result ≡ (if bytes_eq word.now (codes "vectors") then Some Vectors else None) }
+// The form of one word alone.
+fn single_form<'a>(word: &str) -> Option<Form<'a>>
+    ensures { option_map form_value result ≡ single_form word.now }
 {
-    if word == "vectors" {
-        Some(Form::Vectors)
-    } else {
-        None
+    match word {
+        "vectors" => Some(Form::Vectors),
+        "check" => Some(Form::Check),
+        _ => None,
     }
 }
 
@@ -111,7 +114,7 @@ pub fn form_of(words: &[String]) -> Option<Form<'_>>
     ensures { option_map form_value result ≡ form_of (map string_bytes words.now) }
 {
     match words {
-        [word] => vectors_form(word.as_str()),
+        [word] => single_form(word.as_str()),
         [word, image] => digest_form(word.as_str(), image.as_str()),
         [word, image, digest, noise] => on_module(
             stream_work(word.as_str()),
