@@ -1,15 +1,12 @@
 -- A run of the machine is a walk, and its replies have their widths.
-use Rattle.std.proofs.Common.{◌≡◌, ◌≤◌, ◌<◌, ◌^◌, ℕ, List, [], ◌∷◌, Some, None, length, refl, arith, subst, sym}
+use Rattle.std.proofs.Common.{ℕ, List, [], ◌∷◌, refl, arith, subst, sym}
 use Rattle.std.specs.List.{AllByRecursion}
-use Rattle.bits_core.specs.declared.limits.TheConstants.{LARGEST_PAYLOAD}
 use Rattle.outside.specs.declared.traits.Sample.{Sample}
-use Rattle.engine_core.specs.Calls.{Calls, Keeps}
+use Rattle.engine_core.specs.Calls.{Calls}
 use Rattle.module_frames.specs.CommandFrames.{CommandFrame, IsSendable, IsSequence}
-use Rattle.module_frames.specs.PublicState.{unpowered}
 use Rattle.module_frames.specs.ReplyFrames.{ReplyFrame, head_of}
 use Rattle.state_model.specs.Laws.{StepsAreLawful, StepsKeepTheRules}
 use Rattle.state_model.specs.MachineState.{MachineState, IsWellFormed, initial_state}
-use Rattle.state_model.specs.Management.{Stepped}
 use Rattle.state_model.specs.Runs.{run_commands}
 use Rattle.state_model.specs.Step.{step, reply_to}
 use Rattle.transcript_check.specs.Laws.{AreBlanked, BlankedStaysLawful, IsBlanked, YesIsLawful}
@@ -58,19 +55,19 @@ run_walks calls keeps lawful s events (command ∷ commands) rules sent =
 
 -- what parses and is lawful passes each checker
 left_lawful : (commands : List CommandFrame) (replies : List ReplyFrame) → YesIsLawful → AreAnswered commands replies → IsLawful (pairs_of (recorded_of commands replies)) → LeaveLawful commands replies
-left_lawful commands replies told are lawful = record {
+left_lawful commands replies says_yes are lawful = record {
   parses = woven_parses commands replies are;
   lawful = lawful;
-  passes = λ answers checked. (told (pairs_of (recorded_of commands replies)) answers checked).1 lawful;
+  passes = λ answers checked. (says_yes (pairs_of (recorded_of commands replies)) answers checked).1 lawful;
 }
 
 pub runs_lawful : {V : Type 0} (calls : Calls V) → StepsKeepTheRules calls → StepsAreLawful calls
     → ((engine : V) (image digest : List ℕ) → IsWellFormed (initial_state engine image digest)) → YesIsLawful → RunsLeaveLawfulTranscripts calls
-runs_lawful {V} calls keeps lawful begins told engine image digest events commands sent =
+runs_lawful {V} calls keeps lawful begins says_yes engine image digest events commands sent =
     let s : MachineState V = initial_state engine image digest in
     let rules : IsWellFormed s = begins engine image digest in
     let ran = run_commands calls s events commands in
-    left_lawful commands ran.replies told (run_answers calls keeps lawful s events commands rules sent) (ran.machine.shared.public, run_walks calls keeps lawful s events commands rules sent)
+    left_lawful commands ran.replies says_yes (run_answers calls keeps lawful s events commands rules sent) (ran.machine.shared.public, run_walks calls keeps lawful s events commands rules sent)
 
 pub streams_lawful : {V : Type 0} (calls : Calls V) → RunsLeaveLawfulTranscripts calls → StreamsLeaveLawfulTranscripts calls
 streams_lawful calls law engine image digest events bytes commands remainder are parses = law engine image digest events commands (parsed_sent bytes commands remainder are parses)
@@ -96,10 +93,10 @@ blanked_pairs (command ∷ commands) (blank ∷ others) (reply ∷ replies) are 
 
 pub blanked_lawful : {V : Type 0} (calls : Calls V) → StepsKeepTheRules calls → StepsAreLawful calls
     → ((engine : V) (image digest : List ℕ) → IsWellFormed (initial_state engine image digest)) → YesIsLawful → BlankedStaysLawful → BlankedTranscriptsStayLawful calls
-blanked_lawful {V} calls keeps lawful begins told stays engine image digest events commands blanked sent are =
+blanked_lawful {V} calls keeps lawful begins says_yes stays engine image digest events commands blanked sent are =
     let s : MachineState V = initial_state engine image digest in
     let rules : IsWellFormed s = begins engine image digest in
     let ran = run_commands calls s events commands in
     let walk : IsLawful (pairs_of (recorded_of commands ran.replies)) = (ran.machine.shared.public, run_walks calls keeps lawful s events commands rules sent) in
-    left_lawful blanked ran.replies told (blanked_answered commands blanked ran.replies are (run_answers calls keeps lawful s events commands rules sent))
+    left_lawful blanked ran.replies says_yes (blanked_answered commands blanked ran.replies are (run_answers calls keeps lawful s events commands rules sent))
     (stays (pairs_of (recorded_of commands ran.replies)) (pairs_of (recorded_of blanked ran.replies)) (blanked_pairs commands blanked ran.replies are) walk)

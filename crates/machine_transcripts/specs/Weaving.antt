@@ -1,5 +1,5 @@
 -- The transcript of commands and the replies to them: as bytes, and as pairs.
-use Rattle.std.specs.Prelude.{◌≡◌, ℕ, List, [], ◌∷◌, ◌++◌, map}
+use Rattle.std.specs.Prelude.{ℕ, List, [], ◌∷◌, ◌++◌, map}
 use Rattle.bits_core.specs.ByteList.{IsBytes}
 use Rattle.module_frames.specs.CommandFrames.{CommandFrame, IsSendable, command_encoding}
 use Rattle.module_frames.specs.ReplyFrames.{ReplyFrame, head_of, reply_encoding}

@@ -15,7 +15,7 @@ pub fn runs_leave_lawful_transcripts<E: Engine>()
     first_no_tells();
 }
 
-/// It stays one where entered bytes are replaced by as many others: who is to check it need not be shown a secret.
+/// It stays one where entered bytes are replaced by as many others: who is to check it need not be shown them.
 pub fn blanked_bytes_stay_lawful<E: Engine>()
     ensures { BlankedTranscriptsStayLawful E.calls }
 {
