@@ -4,6 +4,8 @@
 mod checking;
 mod chunks;
 mod laws;
+#[cfg(test)]
+mod tests;
 mod text;
 
 pub use checking::{Checked, check_transcript};
