@@ -1,5 +1,5 @@
 -- The run over a stream has one ending and one output.
-use Rattle.std.proofs.Common.{◌≡◌, inl, inr, ℕ, List, length, take, sym, ◌∙◌, ap, subst}
+use Rattle.std.proofs.Common.{◌≡◌, inl, inr, ℕ, List, length, take, sym, ◌∙◌, ap}
 use Rattle.std.proofs.lemmas.Bool.{cases_lt}
 use Rattle.engine_core.specs.Calls.{Calls}
 use Rattle.outside.specs.declared.traits.Sample.{Sample}
