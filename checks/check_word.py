@@ -14,7 +14,8 @@ HERE = os.path.dirname(os.path.abspath(__file__))
 TOP = os.path.join(HERE, "..")
 sys.path[:0] = [os.path.join(TOP, "examples"), HERE]
 from client import Algorithm, Domain, Kind, Module, Role, Service, State, Status, image_digest, parts_of_sealed
-from transcripts import SHOWN, check, manual_transcript, pair_at
+from machine_rules import pair_at
+from transcripts import SHOWN, check, manual_transcript
 
 SECONDS = 60
 RECORD, CLIENT = (os.path.join(TOP, "examples", name) for name in ("record.py", "client.py"))

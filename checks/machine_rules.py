@@ -1,7 +1,7 @@
 """The rules that each reply keeps, as docs/INTERFACE.md tells them: over the public state, a command and the head of its reply.
 
 Nothing here was taken from the crates: it is what a reader of the manual would write to look at a recorded dialogue. transcripts.py looks
-at whole ones by it.
+at whole ones by them.
 """
 from dataclasses import dataclass, replace
 
@@ -16,6 +16,8 @@ NAMES = (
 ).split()
 NUMBER = {name: number for number, name in enumerate(NAMES, 1)}
 ZERO = bytes(12)
+LARGEST_BODY, LARGEST_PAYLOAD = 65600, 65664
+LONGEST_HEAD = 28
 
 # "Permitted in", of the table of services.
 IN_ROLES = {OFFICER, USER}
@@ -315,3 +317,52 @@ def step(public, command, head):
             lawful = head.length == 0 and head.block == ZERO
         lawful = lawful and indicated(name, command.body, head)
     return then if then is not None and lawful and (head.state, head.code) == (then.state, then.code) else None
+
+
+class BadFrame(Exception):
+    """The offset of the first fault that the bytes show, and that of the byte with which it shows."""
+
+    def __init__(self, place, shown):
+        super().__init__(place, shown)
+        self.place, self.shown = place, shown
+
+
+# Of each kind of frame: the bytes that may stand at a place, in the order in which they are looked at; where the length of what is
+# told stands, and its limit; the size of a head without a number.
+COMMAND = (((0, (0xC5,)), (1, (1, 2)), (3, (0,))), 4, LARGEST_BODY, 8)
+REPLY = (((0, (0x5C,)), (1, (1, 2)), (3, range(17)), (4, range(8)), (5, (0, 1))), 20, LARGEST_PAYLOAD, 24)
+
+
+def frame_end(transcript, at, kind):
+    """Where the frame that begins here ends, or None where it isn't whole."""
+    good_bytes, length_at, limit, size = kind
+    head = transcript[at : at + LONGEST_HEAD]
+    for place, good in good_bytes:
+        if len(head) > place and head[place] not in good:
+            raise BadFrame(at + place, at + place)
+    if len(head) < length_at + 4:
+        return None
+    told = number(head[length_at : length_at + 4])
+    if told > limit:
+        raise BadFrame(at + length_at, at + length_at + 3)
+    end = at + size + (4 if head[1] == 2 else 0) + told
+    return end if end <= len(transcript) else None
+
+
+def pair_at(transcript, at):
+    """Where the reply of the pair that begins here begins, and where it ends; None where the pair isn't whole."""
+    reply = frame_end(transcript, at, COMMAND)
+    end = None if reply is None else frame_end(transcript, reply, REPLY)
+    return None if end is None else (reply, end)
+
+
+def read_transcript(transcript):
+    """How many whole pairs stand at the front; the first fault behind them and the byte with which it shows, or None; and whether
+    nothing stands behind them."""
+    pairs, at = 0, 0
+    try:
+        while pair := pair_at(transcript, at):
+            pairs, at = pairs + 1, pair[1]
+    except BadFrame as fault:
+        return pairs, (fault.place, fault.shown), False
+    return pairs, None, at == len(transcript)

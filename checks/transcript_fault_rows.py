@@ -1,5 +1,5 @@
 #!/usr/bin/env python3
-"""Writes a transcript with one byte changed, and what transcripts.py reads there: for the tests of transcript_check.
+"""Writes a transcript with one byte changed, and what machine_rules.py reads there: for the tests of transcript_check.
 
     python3 checks/transcript_fault_rows.py > crates/transcript_check/src/fault_rows.rt
     (cd crates/transcript_check && rt fmt)
@@ -9,8 +9,7 @@ stand in front, the offset of the first fault, that of the byte with which it sh
 transcript ends with a whole pair. A row has a byte's offset, the values from one to another that it is set to, and what is read then. The last
 table has what is read of the first bytes alone, for each number of them.
 """
-from machine_rules import INIT, OFFICER, ZERO, Command, Head, NUMBER
-from transcripts import read_transcript
+from machine_rules import INIT, OFFICER, ZERO, Command, Head, NUMBER, read_transcript
 
 PAIRS = (
     (Command(NUMBER["PowerOn"], bytes([0, 0, 0, 3])), Head(NUMBER["PowerOn"], None, 0, INIT, 0, 0, ZERO, 0), b""),

@@ -16,8 +16,8 @@ import stored_files
 from dialogue import DIALOGUES
 from dialogue_bodies import DIGEST, IMAGE, NOISE
 from machine import Machine, frame
-from machine_rules import NAMES, OK, OUT_OF_ORDER, NUMBER, Public, read_command, read_head
-from transcripts import BAD_FRAME, COMMAND, LAWFUL, NOT_LAWFUL, REPLY, TRUNCATED, BadFrame, after_pair, check, frame_end, pair_at
+from machine_rules import COMMAND, NAMES, NUMBER, OK, OUT_OF_ORDER, REPLY, BadFrame, Public, frame_end, pair_at, read_command, read_head
+from transcripts import BAD_FRAME, LAWFUL, NOT_LAWFUL, TRUNCATED, after_pair, check
 
 CRATE = "transcript_program"
 # Dialogues that would take much room and tell little more, or nothing.
