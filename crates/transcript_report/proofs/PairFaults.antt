@@ -1,5 +1,5 @@
 -- The faults that the bytes of a pair show.
-use Rattle.std.proofs.Common.{◌≡◌, ◌+◌, ◌++◌, ℕ, List, [], None, Some, length, inl, inr, sym, ◌∙◌, ap, subst, arith, length-append}
+use Rattle.std.proofs.Common.{◌≡◌, ◌++◌, ℕ, List, [], None, Some, length, inl, inr, sym, ◌∙◌, ap, subst, arith, length-append}
 use Rattle.std.proofs.lemmas.List.{append_assoc}
 use Rattle.module_frames.specs.CommandFrames.{CommandFrame, IsSendable, command_encoding}
 use Rattle.module_frames.specs.Streams.{first_fault}

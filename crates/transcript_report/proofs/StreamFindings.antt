@@ -1,5 +1,5 @@
 -- What is found of a stream.
-use Rattle.std.proofs.Common.{◌≡◌, ◌≢◌, ◌<◌, ◌≤◌, ◌+◌, ◌++◌, ◌↔◌, ℕ, Bool, true, false, IsTrue, List, [], Option, None, Some, length, refl, sym, ◌∙◌, ap, subst, arith, length-append}
+use Rattle.std.proofs.Common.{◌≡◌, ◌<◌, ◌≤◌, ◌++◌, ◌↔◌, ℕ, true, false, IsTrue, List, [], Option, None, Some, length, refl, sym, ◌∙◌, ap, subst, arith, length-append}
 use Rattle.std.proofs.lemmas.List.{append-nil, nil_from_length}
 use Rattle.module_frames.specs.declared.public_state.PublicState.{PublicState}
 use Rattle.outside.specs.Contents.{Consumes, IsAtEnd}

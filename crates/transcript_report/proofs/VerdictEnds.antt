@@ -1,10 +1,8 @@
 -- What an answer's text tells, and what is left where that was written or cut off.
-use Rattle.std.proofs.Common.{◌≡◌, ◌≢◌, ◌<◌, ℕ, List, [], Option, length, take, refl, arith}
+use Rattle.std.proofs.Common.{◌≡◌, ◌≢◌, ℕ, List, [], Option, refl, arith}
 use Rattle.outside.specs.Contents.{Appends}
-use Rattle.outside.specs.Faults.{FaultCounted}
 use Rattle.stream_calls.specs.PartialWrites.{AppendsPart}
-use Rattle.stream_calls.specs.Streams.{Streams}
-use Rattle.transcript_report.specs.Checks.{Checks, ReadFailed, ReadsLeft, VerdictReached}
+use Rattle.transcript_report.specs.Checks.{Checks, ReadsLeft, VerdictReached}
 use Rattle.transcript_report.specs.Progress.{ReadCutOff, text_of}
 use Rattle.transcript_report.specs.declared.checking.Checked.{Checked}
 use Rattle.transcript_report.specs.declared.checking.Checked.TheVariants as checked

@@ -1,11 +1,10 @@
 -- From what checking leaves to the verdict on the source's content.
-use Rattle.std.proofs.Common.{◌≡◌, ◌≢◌, ◌<◌, ◌≤◌, ◌+◌, ◌-◌, ◌++◌, inl, inr, ℕ, Bool, true, false, List, Option, Some, append_assoc, refl, sym, ◌∙◌, ap, subst, length, length-append, take, drop, arith}
+use Rattle.std.proofs.Common.{◌≡◌, ◌≢◌, ◌≤◌, ◌+◌, ◌-◌, ◌++◌, ℕ, Bool, true, false, List, Option, Some, append_assoc, refl, sym, ◌∙◌, ap, subst, length, length-append, take, drop, arith}
 use Rattle.std.proofs.Math.Seq.{take-add}
-use Rattle.std.proofs.lemmas.Bool.{cases_Bool}
 use Rattle.std.proofs.lemmas.List.{drop_at, take_at}
 use Rattle.stream_calls.specs.Streams.{Streams}
 use Rattle.stream_calls.specs.declared.limits.TheConstants.{STREAM_MAX}
-use Rattle.transcript_report.specs.Checks.{Checks, VerdictReached, VerdictWritten}
+use Rattle.transcript_report.specs.Checks.{Checks, VerdictReached}
 use Rattle.transcript_report.specs.Verdicts.{ComesTo, IsVerdict, ShowsUnlawful}
 use Rattle.transcript_report.specs.declared.checking.Checked.{Checked}
 use Rattle.transcript_report.specs.declared.checking.Checked.TheVariants as checked

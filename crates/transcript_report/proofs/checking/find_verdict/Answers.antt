@@ -1,11 +1,10 @@
-use Rattle.std.proofs.Common.{◌≡◌, ◌<◌, ◌≤◌, ◌+◌, ◌++◌, List, ℕ, [], length, take, refl, sym, ◌∙◌, ap, subst, arith, length-append, append-nil}
+use Rattle.std.proofs.Common.{◌≡◌, ◌<◌, ◌++◌, [], length, take, refl, ◌∙◌, subst, arith, length-append, append-nil}
 use Rattle.std.proofs.lemmas.List.{length-take-le}
 use Rattle.outside.specs.Contents.{Consumes}
 use Rattle.outside.proofs.ConsecutiveCalls.{consumes_none, consumes_both}
 use Rattle.stream_calls.specs.declared.limits.TheConstants.{STREAM_MAX}
-use Rattle.transcript_report.specs.Progress.{CheckedSoFar}
-use Rattle.transcript_report.proofs.PairChecks.{checked_none, held_place}
-use Rattle.transcript_report.proofs.StreamFindings.{all_of, cut_off, ended_lawful, ended_truncated, found_bad_frame, found_limit, found_unlawful}
+use Rattle.transcript_report.proofs.PairChecks.{checked_none}
+use Rattle.transcript_report.proofs.StreamFindings.{all_of, ended_truncated, found_bad_frame, found_unlawful}
 use Rattle.transcript_report.proofs.checking.find_verdict.Goals as goal
 
 pub loop-taken-init : goal.loop-taken-init
