@@ -10,13 +10,14 @@ bytes. Statuses and texts are those of the table in docs/INTERFACE.md, by the wo
 may take no more address space than one that waits for its first byte has and a little, so a run that takes memory later finds none, and
 ends with another status. (A child's peak as the system counts it would have that of Python.)
 
-Each of these was tried, and inputs 1 to 1,000 told it: row 3 or row 10 left out of the table, the text of row 4 changed, and for the
-program one that ends by a signal at a byte `ff`, one that never ends at the end of its input, and one that takes 1 MiB after its first byte.
+Each of these was tried, and inputs 1 to 60 told it: row 3 or row 10 left out of the table, the text of row 4 changed, and in the program's
+place one that ends by a signal at a byte `ff`, one that runs on at the end of its input, and one that takes 1 MiB after its first bytes.
 """
 import os
 import random
 import re
 import resource
+import signal
 import subprocess
 import sys
 import tempfile
@@ -27,7 +28,8 @@ HERE = os.path.dirname(os.path.abspath(__file__))
 TOP = os.path.join(HERE, "..")
 MANUAL = os.path.join(TOP, "docs", "INTERFACE.md")
 DIALOGUES, LINES = (os.path.join(TOP, "crates", name, "data") for name in ("dialogue_program", "line_program"))
-SECONDS = 10
+# A run may take so many seconds of a processor, and so many in all, since the machine may be busy.
+SECONDS, PATIENCE = 10, 60
 AT_A_TIME = 2
 # The largest stream of the corpus: larger ones take long and are cut into the same frames.
 LARGEST = 12_000
@@ -153,7 +155,9 @@ class Runner:
 
     def begun(self, word, output):
         # Replies go to a file, so that nobody has to read them while the input is written.
-        return subprocess.Popen(self.words[word], stdin=subprocess.PIPE, stdout=output, stderr=subprocess.PIPE)
+        process = subprocess.Popen(self.words[word], stdin=subprocess.PIPE, stdout=output, stderr=subprocess.PIPE)
+        resource.prlimit(process.pid, resource.RLIMIT_CPU, (SECONDS, SECONDS))
+        return process
 
     def space(self, word):
         """The address space of a run that waits for its first byte."""
@@ -171,11 +175,13 @@ class Runner:
         with tempfile.TemporaryFile() as output, self.begun(word, output) as process:
             resource.prlimit(process.pid, resource.RLIMIT_AS, (self.most[word], self.most[word]))
             try:
-                _, text = process.communicate(stream, timeout=SECONDS)
+                _, text = process.communicate(stream, timeout=PATIENCE)
             except subprocess.TimeoutExpired:
                 process.kill()
-                raise Wrong(f"it doesn't end within {SECONDS} seconds") from None
+                raise Wrong(f"it doesn't end within {PATIENCE} seconds") from None
         status = process.returncode
+        if status in (-signal.SIGXCPU, -signal.SIGKILL):
+            raise Wrong(f"it takes more than {SECONDS} seconds of a processor")
         if status not in self.texts[word]:
             raise Wrong(f"it ends with {status}, and writes {text!r} to standard error")
         if text != self.texts[word][status]:

@@ -9,8 +9,8 @@ bad one. The stream reaches the program in pieces that the number makes too: eac
 may end inside a frame or hold several. What is written to standard error is the text of the exit status.
 
 Each of these was tried, and streams 1 to 200 told it: in the model a Seal that doesn't draw where its slot is empty, an Unwrap that
-links its target only where it fills it, a refused use that isn't counted, a Reset that sets the expected number, and a frame of which
-byte 3 isn't looked at; and a program that is given another noise.
+links its target only where it fills it, a refused use that isn't counted, a Reset that sets the expected number, a draw that reseeds one
+draw late, and a frame of which byte 3 isn't looked at; and a program that is given another noise.
 """
 import hashlib
 import hmac
