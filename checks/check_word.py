@@ -184,9 +184,14 @@ def worked():
     woven = b"".join(bytes.fromhex(f"{c}5c01{h}00{b}" + "00" * 4) for c, h, b in zip(commands, heads, blocks))
     expect("length", len(woven), 196)
     for what, transcript, status, written in (
-        ("worked", woven, 0, b"lawful 6\n"), ("none", b"", 0, b"lawful 0\n"), ("a state", woven[:144] + b"\4" + woven[145:], 16, b"pair 5\n"),
-        ("half a pair", woven[:44], 4, b""), ("no reply", woven[:12] + b"\0" + woven[13:], 3, b""), ("unlawful, and cut", woven[36:80], 16, b"pair 1\n"),
-        ("unlawful, and a bad frame", woven[36:68] + b"\0", 16, b"pair 1\n"), ("lawful, and a bad frame", woven + b"\0", 3, b""),
+        ("worked", woven, 0, b"lawful 6\n"),
+        ("none", b"", 0, b"lawful 0\n"),
+        ("a state", woven[:144] + b"\4" + woven[145:], 16, b"pair 5\n"),
+        ("half a pair", woven[:44], 4, b""),
+        ("no reply", woven[:12] + b"\0" + woven[13:], 3, b""),
+        ("unlawful, and cut", woven[36:80], 16, b"pair 1\n"),
+        ("unlawful, and a bad frame", woven[36:68] + b"\0", 16, b"pair 1\n"),
+        ("lawful, and a bad frame", woven + b"\0", 3, b""),
     ):
         expect(what, checked(transcript), (status, written, TEXTS[status]))
 
@@ -245,7 +250,8 @@ def recorder_ends_as_the_program():
 
 def talks():
     """The client's own command through the recorder, as the manual has it."""
-    ran = subprocess.run([sys.executable, "-B", CLIENT, "talk", "--", *recording("talked")], input=b"ShowStatus\nPowerOn 00000000\n", stdout=subprocess.PIPE, timeout=SECONDS)
+    words, lines = [sys.executable, "-B", CLIENT, "talk", "--", *recording("talked")], b"ShowStatus\nPowerOn 00000000\n"
+    ran = subprocess.run(words, input=lines, stdout=subprocess.PIPE, timeout=SECONDS)
     expect("status", ran.returncode, 0)
     expect("verdict", checked(content(in_room("talked")))[:2], (0, b"lawful 2\n"))
 

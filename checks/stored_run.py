@@ -11,6 +11,8 @@ import hmac
 import os
 import sys
 
+from stored_files import content
+
 CRATE = os.path.join(os.path.dirname(os.path.abspath(__file__)), "..", "crates", "module_program")
 
 IMAGE = b"abc"
@@ -132,14 +134,6 @@ FILES = {
     "data/digest": hmac.new(IMAGE_KEY, IMAGE, "sha256").hexdigest().encode() + b"\n",
     "data/noise": bytes(k % 256 for k in range(SAMPLES)),
 }
-
-
-def content(path):
-    try:
-        with open(path, "rb") as file:
-            return file.read()
-    except FileNotFoundError:
-        return None
 
 
 def main(words):

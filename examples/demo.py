@@ -270,7 +270,8 @@ def check_dialogue(words, transcript):
     print("    Each reply is one that the rules allow after the ones before it. That a module gave them, no transcript can tell.")
     state = transcript[at].index(b"\x5c\x01") + STATE_AT
     changed = [*transcript[:at], transcript[at][:state] + bytes([State.User]) + transcript[at][state + 1 :], *transcript[at + 1 :]]
-    if not show_verdict(words, changed, f"The same, where reply {at + 1} to SelectRole tells the user's role in place of the officer's", (f"pair {at + 1}", 16)):
+    what = f"The same, where reply {at + 1}, to SelectRole, tells the user's role in place of the officer's"
+    if not show_verdict(words, changed, what, (f"pair {at + 1}", 16)):
         return 1
     print("    The officer's role was asked for, and so no other can come of it.")
     return 0
