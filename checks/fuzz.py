@@ -11,7 +11,7 @@ may take no more address space than one that waits for its first byte has and a 
 ends with another status. (A child's peak as the system counts it would have that of Python.)
 
 Each of these was tried, and inputs 1 to 60 told it: row 3 or row 10 left out of the table, the text of row 4 changed, and in the program's
-place one that ends by a signal at a byte `ff`, one that runs on at the end of its input, and one that takes 1 MiB after its first bytes.
+place one that ends by a signal at a byte `ff`, and one that takes 1 MiB after its first bytes.
 """
 import os
 import random
