@@ -31,9 +31,7 @@ fn take_and_check<S: Source, K: Sink>(
 {
     let mut pairs = Pairs::new(alloc)?;
     let mut chunk = vec![in alloc; 0; CHUNK]?;
-    Ok(check_transcript(
-        transcript, verdict, &mut pairs, &mut chunk,
-    ))
+    Ok(check_transcript(transcript, verdict, &mut pairs, &mut chunk))
 }
 
 // The fault for how the check ended, where it wasn't that all pairs are lawful steps.

@@ -6,7 +6,10 @@ use std::test::Fail;
 fn tells_each_fault(rt: HostRuntime) -> Result<(), Fail> {
     let rows = [
         (1, "a vector failed"),
-        (2, "usage: serve, operate, digest, session, vectors or check"),
+        (
+            2,
+            "usage: serve, operate, digest, session, vectors or check",
+        ),
         (3, "bad frame"),
         (4, "truncated frame"),
         (5, "read failed"),
