@@ -4,11 +4,11 @@ manual doesn't have, or memory that grows is a failure. What it answers isn't lo
 
 usage: fuzz.py PROGRAM [FIRST [COUNT]]
 
-A number makes one input, for `serve`, `operate` or `vectors` by turns. It is a stored stream of dialogue_program or line_program of
-which bits are turned, or whose frames or lines are left out, doubled and exchanged, or which is cut or joined to another one; or random
-bytes. Statuses and texts are those of the table in docs/INTERFACE.md, by the words that a row names. Before its input is written a run
-may take no more address space than one that waits for its first byte has and a little, so a run that takes memory later finds none, and
-ends with another status. (A child's peak as the system counts it would have that of Python.)
+A number makes one input, for `serve`, `operate`, `vectors` or `check` by turns. It is a stored stream of dialogue_program,
+line_program or transcript_program of which bits are turned, or whose frames or lines are left out, doubled and exchanged, or which is cut
+or joined to another one; or random bytes. Statuses and texts are those of the table in docs/INTERFACE.md, by the words that a row names.
+Before its input is written a run may take no more address space than one that waits for its first byte has and a little, so a run that
+takes memory later finds none, and ends with another status. (A child's peak as the system counts it would have that of Python.)
 
 Each of these was tried, and inputs 1 to 60 told it: row 3 or row 10 left out of the table, the text of row 4 changed, and in the program's
 place one that ends by a signal at a byte `ff`, and one that takes 1 MiB after its first bytes.
@@ -27,7 +27,7 @@ from concurrent.futures import ThreadPoolExecutor
 HERE = os.path.dirname(os.path.abspath(__file__))
 TOP = os.path.join(HERE, "..")
 MANUAL = os.path.join(TOP, "docs", "INTERFACE.md")
-DIALOGUES, LINES = (os.path.join(TOP, "crates", name, "data") for name in ("dialogue_program", "line_program"))
+DIALOGUES, LINES, TRANSCRIPTS = (os.path.join(TOP, "crates", f"{name}_program", "data") for name in ("dialogue", "line", "transcript"))
 # A run may take so many seconds of a processor, and so many in all, since the machine may be busy.
 SECONDS, PATIENCE = 10, 60
 AT_A_TIME = 2
@@ -67,6 +67,20 @@ def frames(stream):
     return cut + [stream]
 
 
+def recorded(stream):
+    """The frames of a transcript, each command's and its reply's, and what stands behind the last whole one."""
+    cut = []
+    while len(stream) >= 24:
+        numbered = stream[1] == 2
+        if len(cut) % 2:
+            end = (28 if numbered else 24) + int.from_bytes(stream[20:24], "big")
+        else:
+            end = (12 if numbered else 8) + int.from_bytes(stream[4:8], "big")
+        cut.append(stream[:end])
+        stream = stream[end:]
+    return cut + [stream]
+
+
 def lines(stream):
     return stream.splitlines(keepends=True) or [b""]
 
@@ -80,6 +94,8 @@ def corpus(word):
     """The stored streams for a word: (what cuts them into parts, the streams)."""
     if word == "serve":
         cut, paths = frames, [os.path.join(DIALOGUES, words[0]) for words in described("dialogue_program")]
+    elif word == "check":
+        cut, paths = recorded, [os.path.join(TRANSCRIPTS, words[0]) for words in described("transcript_program")]
     else:
         cut, paths = lines, [os.path.join(LINES, words[0]) for words in described("line_program") if words[1:2] == [word]]
     streams = [stream for path in dict.fromkeys(paths) for stream in (content(path).split(SEPARATOR) if cut == lines else [content(path)])]
@@ -149,7 +165,8 @@ def made(number, kinds):
 class Runner:
     def __init__(self, program):
         named = [os.path.join(DIALOGUES, name) for name in ("image", "digest", "noise")]
-        self.words = {"serve": [program, "serve", *named], "operate": [program, "operate", *named], "vectors": [program, "vectors"]}
+        self.words = {word: [program, word, *named] for word in ("serve", "operate")}
+        self.words |= {word: [program, word] for word in ("vectors", "check")}
         self.texts = {word: table(word) for word in self.words}
         self.most = {word: self.space(word) + LITTLE for word in self.words}
 
