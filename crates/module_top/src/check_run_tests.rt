@@ -82,7 +82,8 @@ fn tells_a_failed_read_and_a_failed_write(rt: HostRuntime) -> Result<(), Fail> {
         assert_eq!(rt; status, 5);
         assert_eq!(rt; written.bytes(), [].as_slice());
     }
-    let parts: [(u64, &[u8]); 3] = [(1, b""), (2, b"lawf"), (3, b"lawful 3")];
+    // The word takes two writes, the number one, and so does the line feed.
+    let parts: [(u64, &[u8]); 4] = [(1, b""), (2, b"lawf"), (3, b"lawful "), (4, b"lawful 3")];
     for (call, want) in parts {
         let (status, written) = verdict(rt.alloc(), &TRANSCRIPT, 50, &[], &[call])?;
         assert_eq!(rt; status, 6);
