@@ -6,7 +6,8 @@ usage: second_opinion.py PROGRAM [FIRST [COUNT]]
 A number makes one stream, FIRST and those after it COUNT of them: frames of both versions with services, bodies and keys that fit the
 state that the model is in, or don't; image, digest and noise, which may be at fault; and at the end nothing, a frame that is cut, or a
 bad one. The stream reaches the program in pieces that the number makes too: each read gets one piece (a packet of a socket), which
-may end inside a frame or hold several. What is written to standard error is the text of the exit status.
+may end inside a frame or hold several. What is written to standard error is the text of the exit status. Commands and replies, each
+behind its command, are a transcript, to which the program's `check` has to say yes.
 
 Each of these was tried, and streams 1 to 200 told it: in the model a Seal that doesn't draw where its slot is empty, an Unwrap that
 links its target only where it fills it, a refused use that isn't counted, a Reset that sets the expected number, a draw that reseeds one
@@ -25,6 +26,8 @@ import dialogue_bodies as bodies
 import machine_functions as functions
 from machine import Machine, frame, served
 from machine_bodies import STATES, Kind, Service, State
+from machine_rules import COMMAND, REPLY
+from transcript_runs import split
 
 SECONDS = 60
 TEXTS = {0: b"", 3: b"bad frame\n", 4: b"truncated frame\n"}
@@ -316,12 +319,23 @@ def difference(player, found):
     return None
 
 
+def verdict(program, player, replies):
+    """What `check` says of the dialogue, where it isn't yes."""
+    commands, heads = split(player.stream, COMMAND)[0], split(replies, REPLY)[0]
+    transcript = b"".join(command + reply for command, reply in zip(commands, heads))
+    ended = subprocess.run([program, "check"], input=transcript, capture_output=True, timeout=SECONDS, check=False)
+    if (ended.returncode, ended.stdout) != (0, b"lawful %d\n" % len(commands)):
+        return f"of its {len(commands)} pairs `check` says {ended.stdout!r}, and ends with {ended.returncode}"
+    return None
+
+
 def main(program, first=1, count=200):
     commands = 0
     with tempfile.TemporaryDirectory() as room:
         for number in range(first, first + count):
             player = Player(number).play()
-            differs = difference(player, answered(program, room, player))
+            found = answered(program, room, player)
+            differs = difference(player, found) or verdict(program, player, found[0])
             if differs:
                 print(f"second_opinion: FAILED: stream {number}: {differs}; python3 -B checks/second_opinion.py {program} {number} 1")
                 return 1
