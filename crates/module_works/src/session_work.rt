@@ -1,18 +1,18 @@
 // A session, and its summary.
-ghost use Rattle.std.specs.Prelude.{◌≡◌, ◌≢◌, None, IfOk, OnOk, OnErr};
+ghost use Rattle.std.specs.Prelude.{◌≡◌, ◌≢◌, [], None, IfOk, OnOk, OnErr};
 ghost use Rattle.outside.specs.Explained.{Explained};
 ghost use Rattle.outside.specs.Faults.{FaultCounted};
 ghost use Rattle.state_model.specs.ModuleView.{ModuleView};
 ghost use Rattle.state_model.specs.MachineState.{initial_state};
-ghost use Rattle.module_top.specs.Faults.{result_status};
-ghost use Rattle.module_top.specs.Outcomes.{IsWorkOutcome};
-ghost use Rattle.module_top.specs.Works.{SessionRun, written_status};
-ghost use Rattle.module_top.specs.declared.words.Work.TheVariants as work;
+ghost use Rattle.program_words.specs.Faults.{result_status};
+ghost use Rattle.module_works.specs.WorkOutcomes.{IsWorkOutcome};
+ghost use Rattle.module_works.specs.Works.{SessionRun, written_status};
+ghost use Rattle.program_words.specs.declared.words.Work.TheVariants as work;
 
-use crate::faults::RunFault;
 use engine_core::Engine;
 use module_frames::{Command, Reply};
 use outside::{Failed, Noise, Sink};
+use program_words::RunFault;
 use session_commands::Session;
 use session_runs::run_session;
 use state_model::Module;
@@ -65,12 +65,11 @@ pub fn summarise<E: Engine, N: Noise, K: Sink>(
     noise: &mut N,
     out: &mut K,
 ) -> Result<(), RunFault>
-    ensures outcome { IsWorkOutcome (work.Session seed count) E.calls (initial_state engine image.items digest) (N.left noise.old) (N.left noise.new) (result_status result)
+    ensures outcome { IsWorkOutcome (work.Session seed count) [] [] E.calls (initial_state engine image.items digest) (N.left noise.old) (N.left noise.new) (result_status result)
         (record {
           source = tt {0};
           sink = out.old;
           streams = record { left = None; gained = K.gained out.old };
-          file_faults = 0;
           read_faults = 0;
           write_faults = K.faults out.old;
         })
@@ -78,7 +77,6 @@ pub fn summarise<E: Engine, N: Noise, K: Sink>(
           source = tt {0};
           sink = out.new;
           streams = record { left = None; gained = K.gained out.new };
-          file_faults = 0;
           read_faults = 0;
           write_faults = K.faults out.new;
         }) }

@@ -2,7 +2,7 @@
 ghost use Rattle.std.specs.Prelude.{◌≡◌};
 ghost use Rattle.std.specs.Result.{result_ok};
 ghost use Rattle.hex.specs.Hex.{decode_sized};
-ghost use Rattle.module_top.specs.DigestFile.{digest_of};
+ghost use Rattle.program_words.specs.DigestFile.{digest_of};
 
 use hex::FromHex;
 

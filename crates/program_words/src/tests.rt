@@ -1,4 +1,4 @@
-// The texts of faults. Whole runs stand in `run_tests`, and those of services in crates above.
+// The texts of faults. Whole runs stand in `module_top`.
 use crate::RunFault;
 use std::test::Fail;
 
@@ -8,7 +8,7 @@ fn tells_each_fault(rt: HostRuntime) -> Result<(), Fail> {
         (1, "a vector failed"),
         (
             2,
-            "usage: serve, operate, digest, session, vectors or check",
+            "usage: serve, operate, digest, session, vectors, backup, restore or check",
         ),
         (3, "bad frame"),
         (4, "truncated frame"),
@@ -20,6 +20,9 @@ fn tells_each_fault(rt: HostRuntime) -> Result<(), Fail> {
         (10, "bad line"),
         (11, "bad digest file"),
         (12, "stream too long"),
+        (13, "bad key file"),
+        (14, "not officer"),
+        (15, "bad backup"),
         (16, "not lawful"),
     ];
     for (status, text) in rows {
@@ -27,6 +30,6 @@ fn tells_each_fault(rt: HostRuntime) -> Result<(), Fail> {
         assert_eq!(rt; format!(in rt.alloc(); "{fault}")?.as_str(), text);
     }
     assert!(rt; RunFault::of(0).is_none());
-    assert!(rt; RunFault::of(13).is_none());
+    assert!(rt; RunFault::of(17).is_none());
     Ok(())
 }

@@ -7,7 +7,7 @@ use Rattle.std.proofs.lemmas.Fmt.{decimal_is_IsNumeral}
 use Rattle.std.proofs.lemmas.Bool.{leb-true, le-leb}
 use Rattle.std.proofs.lemmas.Slice.Eq.{bytes_eq-Decides}
 use Rattle.line_words.specs.Numbers.{IsNumberWord}
-use Rattle.module_top.specs.Forms.{spelled_number}
+use Rattle.program_words.specs.Forms.{spelled_number}
 
 -- what the tests choose
 abbrev chosen : Bool → Bool → ℕ → Option ℕ

@@ -1,6 +1,6 @@
 // Why the program ended, other than at the end of its input.
 ghost use Rattle.std.specs.Prelude.{◌≡◌};
-ghost use Rattle.module_top.specs.Faults.{fault_of, status_of};
+ghost use Rattle.program_words.specs.Faults.{fault_of, status_of};
 
 use std::fmt;
 
@@ -31,6 +31,12 @@ pub enum RunFault {
     BadDigest,
     /// 12: the input has 2^40 bytes or more.
     StreamTooLong,
+    /// 13: the file of the two keys hasn't 64 bytes.
+    BadKeyFile,
+    /// 14: the state isn't Officer.
+    NotOfficer,
+    /// 15: the backup is refused.
+    BadBackup,
     /// 16: a pair of the transcript isn't a lawful step.
     NotLawful,
 }
@@ -53,13 +59,16 @@ impl RunFault {
             10 => Some(RunFault::BadLine),
             11 => Some(RunFault::BadDigest),
             12 => Some(RunFault::StreamTooLong),
+            13 => Some(RunFault::BadKeyFile),
+            14 => Some(RunFault::NotOfficer),
+            15 => Some(RunFault::BadBackup),
             16 => Some(RunFault::NotLawful),
             _ => None,
         }
     }
 
     /// The exit status for the fault.
-    pub(crate) fn status(self) -> u8
+    pub fn status(self) -> u8
         ensures { result ≡ status_of self }
     {
         match self {
@@ -75,6 +84,9 @@ impl RunFault {
             RunFault::BadLine => 10,
             RunFault::BadDigest => 11,
             RunFault::StreamTooLong => 12,
+            RunFault::BadKeyFile => 13,
+            RunFault::NotOfficer => 14,
+            RunFault::BadBackup => 15,
             RunFault::NotLawful => 16,
         }
     }
@@ -83,14 +95,14 @@ impl RunFault {
 /// The text that the program writes to standard error. That for `Usage` names the words that the program knows.
 impl fmt::Display for RunFault {
     ghost use Rattle.std.specs.Prelude.{Some};
-    ghost use Rattle.module_top.specs.Faults.{text_of};
+    ghost use Rattle.program_words.specs.Faults.{text_of};
 
     ghost output = { λ fault. Some (text_of fault) };
 
     fn fmt<W: fmt::Write>(&self, f: &mut fmt::Formatter<W>) -> fmt::Result {
         f.write_str(match self {
             RunFault::VectorFailed => "a vector failed",
-            RunFault::Usage => "usage: serve, operate, digest, session, vectors or check",
+            RunFault::Usage => "usage: serve, operate, digest, session, vectors, backup, restore or check",
             RunFault::BadFrame => "bad frame",
             RunFault::Truncated => "truncated frame",
             RunFault::ReadFailed => "read failed",
@@ -101,6 +113,9 @@ impl fmt::Display for RunFault {
             RunFault::BadLine => "bad line",
             RunFault::BadDigest => "bad digest file",
             RunFault::StreamTooLong => "stream too long",
+            RunFault::BadKeyFile => "bad key file",
+            RunFault::NotOfficer => "not officer",
+            RunFault::BadBackup => "bad backup",
             RunFault::NotLawful => "not lawful",
         })
     }

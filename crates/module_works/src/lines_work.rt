@@ -1,20 +1,20 @@
 // Lines that an operator types.
-ghost use Rattle.std.specs.Prelude.{◌≡◌, ◌≢◌, IfOk, OnErr};
+ghost use Rattle.std.specs.Prelude.{◌≡◌, ◌≢◌, [], IfOk, OnErr};
 ghost use Rattle.outside.specs.Explained.{Explained};
 ghost use Rattle.outside.specs.Faults.{FaultCounted};
 ghost use Rattle.state_model.specs.ModuleView.{ModuleView};
 ghost use Rattle.state_model.specs.MachineState.{initial_state};
 ghost use Rattle.line_serving.specs.Operating.{Operates};
-ghost use Rattle.module_top.specs.Faults.{result_status};
-ghost use Rattle.module_top.specs.Outcomes.{IsWorkOutcome};
-ghost use Rattle.module_top.specs.Works.{line_status};
-ghost use Rattle.module_top.specs.declared.words.Work.TheVariants as work;
+ghost use Rattle.program_words.specs.Faults.{result_status};
+ghost use Rattle.module_works.specs.WorkOutcomes.{IsWorkOutcome};
+ghost use Rattle.module_works.specs.Works.{line_status};
+ghost use Rattle.program_words.specs.declared.words.Work.TheVariants as work;
 
-use crate::faults::RunFault;
 use engine_core::Engine;
 use line_serving::{LineCodec, Operated, operate};
 use module_frames::Reply;
 use outside::{Noise, Sink, Source};
+use program_words::RunFault;
 use state_model::Module;
 use std::alloc::{AllocError, Global};
 use stream_calls::CHUNK;
@@ -59,7 +59,7 @@ fn open_and_operate<E: Engine, N: Noise, S: Source, K: Sink>(
 }
 
 // The fault for how the lines ended, where that wasn't at the end of the input.
-fn result_of(answer: Operated) -> Result<(), RunFault>
+pub(crate) fn result_of(answer: Operated) -> Result<(), RunFault>
     ensures { result_status result ≡ line_status answer }
 {
     match answer {
@@ -81,12 +81,11 @@ pub fn operate_lines<E: Engine, N: Noise, S: Source, K: Sink>(
     commands: &mut S,
     replies: &mut K,
 ) -> Result<(), RunFault>
-    ensures outcome { IsWorkOutcome work.Operate E.calls (initial_state engine image.items digest) (N.left noise.old) (N.left noise.new) (result_status result)
+    ensures outcome { IsWorkOutcome work.Operate [] [] E.calls (initial_state engine image.items digest) (N.left noise.old) (N.left noise.new) (result_status result)
         (record {
           source = commands.old;
           sink = replies.old;
           streams = record { left = S.left commands.old; gained = K.gained replies.old };
-          file_faults = 0;
           read_faults = S.faults commands.old;
           write_faults = K.faults replies.old;
         })
@@ -94,7 +93,6 @@ pub fn operate_lines<E: Engine, N: Noise, S: Source, K: Sink>(
           source = commands.new;
           sink = replies.new;
           streams = record { left = S.left commands.new; gained = K.gained replies.new };
-          file_faults = 0;
           read_faults = S.faults commands.new;
           write_faults = K.faults replies.new;
         }) }

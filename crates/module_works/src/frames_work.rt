@@ -1,21 +1,21 @@
 // Frames that are served from a source.
-ghost use Rattle.std.specs.Prelude.{◌≡◌, ◌≢◌, IfOk, OnErr};
+ghost use Rattle.std.specs.Prelude.{◌≡◌, ◌≢◌, [], IfOk, OnErr};
 ghost use Rattle.outside.specs.Explained.{Explained};
 ghost use Rattle.outside.specs.Faults.{FaultCounted};
 ghost use Rattle.state_model.specs.ModuleView.{ModuleView};
 ghost use Rattle.state_model.specs.MachineState.{initial_state};
 ghost use Rattle.command_serving.specs.FrameGrammar.{frame_grammar};
 ghost use Rattle.command_serving.specs.Serving.{Serves};
-ghost use Rattle.module_top.specs.Faults.{result_status};
-ghost use Rattle.module_top.specs.Outcomes.{IsWorkOutcome};
-ghost use Rattle.module_top.specs.Works.{exit_status};
-ghost use Rattle.module_top.specs.declared.words.Work.TheVariants as work;
+ghost use Rattle.program_words.specs.Faults.{result_status};
+ghost use Rattle.module_works.specs.WorkOutcomes.{IsWorkOutcome};
+ghost use Rattle.module_works.specs.Works.{exit_status};
+ghost use Rattle.program_words.specs.declared.words.Work.TheVariants as work;
 
-use crate::faults::RunFault;
 use command_serving::{Ended, serve};
 use engine_core::Engine;
 use module_frames::{Frames, Reply};
 use outside::{Noise, Sink, Source};
+use program_words::RunFault;
 use state_model::Module;
 use std::alloc::{AllocError, Global};
 use stream_calls::CHUNK;
@@ -83,12 +83,11 @@ pub fn serve_frames<E: Engine, N: Noise, S: Source, K: Sink>(
     commands: &mut S,
     replies: &mut K,
 ) -> Result<(), RunFault>
-    ensures outcome { IsWorkOutcome work.Serve E.calls (initial_state engine image.items digest) (N.left noise.old) (N.left noise.new) (result_status result)
+    ensures outcome { IsWorkOutcome work.Serve [] [] E.calls (initial_state engine image.items digest) (N.left noise.old) (N.left noise.new) (result_status result)
         (record {
           source = commands.old;
           sink = replies.old;
           streams = record { left = S.left commands.old; gained = K.gained replies.old };
-          file_faults = 0;
           read_faults = S.faults commands.old;
           write_faults = K.faults replies.old;
         })
@@ -96,7 +95,6 @@ pub fn serve_frames<E: Engine, N: Noise, S: Source, K: Sink>(
           source = commands.new;
           sink = replies.new;
           streams = record { left = S.left commands.new; gained = K.gained replies.new };
-          file_faults = 0;
           read_faults = S.faults commands.new;
           write_faults = K.faults replies.new;
         }) }
