@@ -8,7 +8,7 @@ use outside::{MemSink, MemSource};
 use rows::Row;
 use std::alloc::Global;
 use std::test::Fail;
-use transcript_check::Pairs;
+use transcript_pairs::Pairs;
 
 // How the check of a source ends, and what is written.
 fn checked(
