@@ -1,7 +1,7 @@
 -- The bytes of a transcript: each command's frame followed by its reply's. What a reader of them holds, and what it answers to a piece.
-use Rattle.std.specs.Prelude.{◌≡◌, ◌≤◌, ◌+◌, ◌⊎◌, ℕ, List, [], ◌++◌, length, take, Option, None, Some}
+use Rattle.std.specs.Prelude.{◌≡◌, ◌≤◌, ◌+◌, ◌⊎◌, ℕ, List, [], ◌++◌, length, take, map, Option, None, Some}
 use Rattle.module_frames.specs.CommandFrames.{CommandFrame, IsCommandFrame, IsSendable, command_encoding}
-use Rattle.std.specs.List.{AllByRecursion, flat_map, map}
+use Rattle.std.specs.List.{AllByRecursion, flat_map}
 use Rattle.bits_core.specs.declared.limits.TheConstants.{LARGEST_PAYLOAD}
 use Rattle.module_frames.specs.ReplyHeads.{HasWidths, head_encoding}
 use Rattle.module_frames.specs.declared.head.ReplyHead.{ReplyHead}

@@ -2,18 +2,19 @@
 ghost use Rattle.std.specs.Prelude.{◌+◌, ◌≤◌};
 ghost use Rattle.transcript_pairs.specs.PairStreams.{held_length};
 
-use crate::fault_rows::{CUTS, ROWS, TRANSCRIPT};
-use crate::tests::{dialogue, failures, keys, numbered, periods};
-use crate::{Checker, PairFed, Pairs};
+use crate::fault_rows::{CUTS, ROWS, Read, Row, TRANSCRIPT};
+use crate::{PairFed, Pairs};
+use module_frames::{Command, ReplyHead};
+use service_table::{State, Status};
 use std::alloc::{AllocError, Global};
 use std::test::Fail;
 
-// A reader that is fed no more than 2^41 bytes, a checker of what it reads, and how many of the pairs are lawful.
+// A reader that is fed no more than 2^41 bytes, how many pairs stood, and how many of them were those of the transcript in turn.
 #[derive(Drop)]
 struct Feeder {
     pairs: Pairs,
-    checker: Checker,
-    lawful: u32,
+    whole: u32,
+    expected: u32,
     fed: u64,
     ghost placed: { pairs.start + held_length pairs ≤ fed },
 }
@@ -24,25 +25,63 @@ const MOST: u64 = 1 << 40;
 // What stands for no fault.
 const NONE: u64 = 255;
 
-// Whole pairs, the fault, the byte that shows it, and whether the end is one of a pair.
-type Read = (u32, u64, u64, bool);
-
 fn begin(alloc: Global) -> Result<Feeder, AllocError> {
     let pairs = Pairs::new(alloc)?;
     Ok(Feeder {
         pairs,
-        checker: Checker::new(),
-        lawful: 0,
+        whole: 0,
+        expected: 0,
         fed: 0,
     })
 }
 
-// Feeds a piece; where a pair stands it is checked and cleared.
+// The service, the sequence number and the body of the transcript's command of this number, from 0 on.
+fn command_of(number: u32) -> (u8, Option<u32>, &'static [u8]) {
+    match number {
+        0 => (0x01, None, &[0, 0, 0, 3]),
+        1 => (0x05, Some(1), &[]),
+        _ => (0x10, None, &[1]),
+    }
+}
+
+// The head of its reply.
+fn head_of(number: u32) -> ReplyHead {
+    let (service, sequence, _) = command_of(number);
+    ReplyHead {
+        service,
+        sequence,
+        status: Status::Ok,
+        state: if number < 2 {
+            State::Init
+        } else {
+            State::Officer
+        },
+        approved: number >= 2,
+        code: 0,
+        block: if number == 1 {
+            *b"SYMMOD 01.00"
+        } else {
+            [0; 12]
+        },
+        length: if number < 2 { 0 } else { 32 },
+    }
+}
+
+// Whether these are the command of this number and its reply's head.
+fn is_expected(number: u32, command: &Command, head: &ReplyHead) -> bool {
+    let (service, sequence, body) = command_of(number);
+    command.service() == service
+        && command.sequence() == sequence
+        && command.body() == body
+        && *head == head_of(number)
+}
+
+// Feeds a piece; where a pair stands it is looked at and cleared.
 fn feed(feeder: Feeder, piece: &[u8]) -> (Feeder, PairFed) {
     let Feeder {
         mut pairs,
-        mut checker,
-        mut lawful,
+        mut whole,
+        mut expected,
         fed,
     } = feeder;
     let length = piece.len() as u64;
@@ -50,8 +89,8 @@ fn feed(feeder: Feeder, piece: &[u8]) -> (Feeder, PairFed) {
         return (
             Feeder {
                 pairs,
-                checker,
-                lawful,
+                whole,
+                expected,
                 fed,
             },
             PairFed::More,
@@ -59,98 +98,74 @@ fn feed(feeder: Feeder, piece: &[u8]) -> (Feeder, PairFed) {
     }
     let answer = pairs.feed(piece);
     if let PairFed::Whole(_) = answer {
-        if checker.step(pairs.command(), &pairs.head()) {
-            lawful = lawful.wrapping_add(1);
+        if is_expected(whole % 3, pairs.command(), &pairs.head()) {
+            expected = expected.wrapping_add(1);
         }
+        whole = whole.wrapping_add(1);
         pairs.clear();
     }
     let feeder = Feeder {
         pairs,
-        checker,
-        lawful,
+        whole,
+        expected,
         fed: fed + length,
     };
     (feeder, answer)
 }
 
-// What is read where pieces have at most so many bytes, and how many of the pairs are lawful. The byte that shows a fault is told right with
-// pieces of one byte alone. A fault is told again for good.
+// What was read where the fault is at this offset, which is told again for good.
+fn broken(feeder: Feeder, place: u64) -> (Read, u32) {
+    let shown = feeder.fed.wrapping_sub(1);
+    let is_whole = feeder.pairs.at_boundary();
+    let (whole, expected) = (feeder.whole, feeder.expected);
+    let (_, again) = feed(feeder, &[0xc5]);
+    let place = if again == PairFed::BadFrame(place) {
+        place
+    } else {
+        0
+    };
+    ((whole, place, shown, is_whole), expected)
+}
+
+// What is read where pieces have at most so many bytes, and how many of the pairs are those of the transcript. The byte that shows a fault
+// is told right with pieces of one byte alone.
 fn read(alloc: Global, bytes: &[u8], step: usize) -> Result<(Read, u32), AllocError> {
     let mut feeder = begin(alloc)?;
-    let mut pairs = 0u32;
     let mut rest = bytes;
     for _turn in 0..20_000u32 {
         if rest.is_empty() {
             let is_whole = feeder.pairs.at_boundary();
-            return Ok(((pairs, NONE, NONE, is_whole), feeder.lawful));
+            return Ok(((feeder.whole, NONE, NONE, is_whole), feeder.expected));
         }
         let size = rest.len().min(step);
         let (next, answer) = feed(feeder, &rest[..size]);
         feeder = next;
-        match answer {
-            PairFed::More => {
-                rest = rest.get(size..).unwrap_or(&[]);
-            }
-            PairFed::Whole(count) => {
-                pairs = pairs.wrapping_add(1);
-                rest = rest.get(count..).unwrap_or(&[]);
-            }
-            PairFed::BadFrame(place) => {
-                let shown = feeder.fed.wrapping_sub(1);
-                let is_whole = feeder.pairs.at_boundary();
-                let lawful = feeder.lawful;
-                let (_, again) = feed(feeder, &[0xc5]);
-                let place = if again == answer { place } else { 0 };
-                return Ok(((pairs, place, shown, is_whole), lawful));
-            }
-        }
+        let taken = match answer {
+            PairFed::More => size,
+            PairFed::Whole(count) => count,
+            PairFed::BadFrame(place) => return Ok(broken(feeder, place)),
+        };
+        rest = rest.get(taken..).unwrap_or(&[]);
     }
     Ok(((u32::MAX, NONE, NONE, false), 0))
 }
 
-// Whether a transcript of so many lawful pairs is read as it is, in pieces of each size.
-fn is_read(alloc: Global, bytes: &[u8], pairs: u32) -> Result<bool, AllocError> {
-    let whole = ((pairs, NONE, NONE, true), pairs);
-    for step in [1usize, 7, 64, 4096] {
-        if read(alloc, bytes, step)? != whole {
-            return Ok(false);
-        }
-    }
-    Ok(true)
-}
-
 #[test]
-fn transcripts_are_read_however_cut(rt: HostRuntime) -> Result<(), Fail> {
-    assert!(rt; is_read(rt.alloc(), dialogue(), 38)?);
-    assert!(rt; is_read(rt.alloc(), keys(), 55)?);
-    assert!(rt; is_read(rt.alloc(), numbered(), 22)?);
-    assert!(rt; is_read(rt.alloc(), failures(), 136)?);
-    assert!(rt; is_read(rt.alloc(), periods(), 45)?);
+fn pairs_stand_however_cut(rt: HostRuntime) -> Result<(), Fail> {
+    let mut bytes = Vec::new(rt.alloc());
+    for _turn in 0..31u32 {
+        bytes.extend_from_slice(&TRANSCRIPT)?;
+    }
+    for step in [1usize, 7, 64, 4096] {
+        assert_eq!(rt;
+            read(rt.alloc(), &bytes, step)?,
+            ((93, NONE, NONE, true), 93)
+        );
+    }
     Ok(())
 }
 
-fn rows() -> &'static [u8] {
-    &ROWS
-}
-
-fn cuts() -> &'static [u8] {
-    &CUTS
-}
-
-// What a row of four bytes tells.
-fn told(row: &[u8]) -> Read {
-    match row {
-        [pairs, place, shown, is_whole] => (
-            u32::from(*pairs),
-            u64::from(*place),
-            u64::from(*shown),
-            *is_whole == 1,
-        ),
-        _ => (u32::MAX, 0, 0, false),
-    }
-}
-
-// Whether the transcript with this byte set to this value is read as the row tells.
+// Whether the transcript with this byte set to this value is read so.
 fn is_found(alloc: Global, byte: usize, value: u8, wanted: Read) -> Result<bool, AllocError> {
     let mut bytes = TRANSCRIPT;
     match bytes.get_mut(byte) {
@@ -167,36 +182,55 @@ fn is_found(alloc: Global, byte: usize, value: u8, wanted: Read) -> Result<bool,
     )
 }
 
+// What a row tells with the byte set to this value.
+fn told(row: &Row, value: u8) -> Read {
+    let (_, from, _, step, (pairs, place, shown, is_whole)) = *row;
+    let way = u64::from(value.wrapping_sub(from)).wrapping_mul(step);
+    (
+        pairs,
+        place.wrapping_add(way),
+        shown.wrapping_add(way),
+        is_whole,
+    )
+}
+
+// The first value of a row of which something else is read than it tells; None where there is none. Where the fault stays where it is, the
+// first value and the last stand for those between.
+fn misread(alloc: Global, row: &Row) -> Result<Option<u8>, AllocError> {
+    let (byte, from, to, step, _) = *row;
+    for value in from..=to {
+        let is_tried = step > 0 || value == from || value == to;
+        if is_tried && !is_found(alloc, byte, value, told(row, value))? {
+            return Ok(Some(value));
+        }
+    }
+    Ok(None)
+}
+
 #[test]
 fn faults_are_told_where_they_show(rt: HostRuntime) -> Result<(), Fail> {
-    let mut rest = rows();
-    for number in 0..1000u32 {
-        let [byte, from, to, ..] = rest else {
-            assert!(rt; number > 600);
-            return Ok(());
-        };
-        let wanted = told(rest.get(3..7).unwrap_or(&[]));
-        for value in [*from, *to] {
-            let found = is_found(rt.alloc(), usize::from(*byte), value, wanted)?;
-            assert!(rt; found, "at {byte}: {value}");
-        }
-        rest = rest.get(7..).unwrap_or(&[]);
+    for row in &ROWS {
+        assert_eq!(rt; misread(rt.alloc(), row)?, None);
     }
-    assert!(rt; false);
     Ok(())
+}
+
+// What is read of so many bytes, as the cuts tell.
+fn cut_at(length: usize) -> Read {
+    for (from, to, wanted) in &CUTS {
+        if *from <= length && length <= *to {
+            return *wanted;
+        }
+    }
+    (u32::MAX, 0, 0, false)
 }
 
 #[test]
 fn transcripts_may_be_cut_off(rt: HostRuntime) -> Result<(), Fail> {
-    let transcript: &[u8] = &TRANSCRIPT;
     for length in 0..142usize {
-        let front = transcript.get(..length).unwrap_or(&[]);
+        let front = TRANSCRIPT.get(..length).unwrap_or(&[]);
         let (found, _) = read(rt.alloc(), front, 5)?;
-        let wanted = told(cuts().get(4 * length..4 * length + 4).unwrap_or(&[]));
-        assert!(rt;
-            (found.0, found.1, found.3) == (wanted.0, wanted.1, wanted.3),
-            "{length} bytes"
-        );
+        assert_eq!(rt; found, cut_at(length));
     }
     Ok(())
 }
