@@ -10,9 +10,9 @@ use Rattle.state_model.specs.MachineState.{MachineState, IsWellFormed, initial_s
 use Rattle.state_model.specs.Runs.{run_commands}
 use Rattle.state_model.specs.Step.{step, reply_to}
 use Rattle.transcript_check.specs.Laws.{AreBlanked, BlankedStaysLawful, IsBlanked, YesIsLawful}
+use Rattle.transcript_check.specs.Transcripts.{IsLawful, IsWalk}
 use Rattle.transcript_pairs.specs.PairStreams.{pairs_of}
 use Rattle.transcript_pairs.specs.ReplyStreams.{IsReply}
-use Rattle.transcript_check.specs.Transcripts.{IsLawful, IsWalk}
 use Rattle.machine_transcripts.specs.Laws.{AreBlankedCommands, BlankedTranscriptsStayLawful, LeaveLawful, RunsLeaveLawfulTranscripts, StreamsLeaveLawfulTranscripts}
 use Rattle.machine_transcripts.specs.Weaving.{IsSent, recorded_of}
 use Rattle.machine_transcripts.proofs.Weaving.{AreAnswered, body_bytes, parsed_sent, service_fits, woven_parses}

@@ -12,8 +12,8 @@ use Rattle.state_model.specs.MachineState.{initial_state}
 use Rattle.state_model.specs.Runs.{run_commands}
 use Rattle.transcript_check.specs.Checking.{IsChecked, first_no}
 use Rattle.transcript_check.specs.Laws.{IsBlanked}
-use Rattle.transcript_pairs.specs.PairStreams.{ParsesIntoPairs, pairs_of}
 use Rattle.transcript_check.specs.Transcripts.{IsLawful}
+use Rattle.transcript_pairs.specs.PairStreams.{ParsesIntoPairs, pairs_of}
 use Rattle.machine_transcripts.specs.Weaving.{IsSent, woven, recorded_of}
 
 -- Commands and replies leave a lawful transcript: their bytes are the frames of its pairs and nothing more, the pairs are lawful steps from

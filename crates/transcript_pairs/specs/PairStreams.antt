@@ -6,8 +6,8 @@ use Rattle.bits_core.specs.declared.limits.TheConstants.{LARGEST_PAYLOAD}
 use Rattle.module_frames.specs.ReplyHeads.{HasWidths, head_encoding}
 use Rattle.module_frames.specs.declared.head.ReplyHead.{ReplyHead}
 use Rattle.module_frames.specs.Streams.{first_fault}
-use Rattle.transcript_pairs.specs.ReplyStreams.{IsReply, reply_encoding, reply_fault}
 use Rattle.transcript_check.specs.Transcripts.{Pair}
+use Rattle.transcript_pairs.specs.ReplyStreams.{IsReply, reply_encoding, reply_fault}
 use Rattle.transcript_pairs.specs.declared.pairs.PairFed.{PairFed}
 use Rattle.transcript_pairs.specs.declared.pairs.PairFed.TheVariants as fed
 
