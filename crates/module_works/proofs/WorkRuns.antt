@@ -9,9 +9,9 @@ use Rattle.command_serving.specs.FrameGrammar.{frame_grammar, frame_grammar_is_l
 use Rattle.stream_calls.specs.Streams.{Streams}
 use Rattle.command_serving.proofs.StreamRuns.{stream_of}
 use Rattle.line_serving.proofs.LineRuns.{lines_of}
-use Rattle.module_top.specs.declared.words.Work.{Work}
-use Rattle.module_top.specs.declared.words.Work.TheVariants as work
-use Rattle.module_top.specs.Works.{exit_status, line_status, summary_of, RunsWork, LeavesWork}
+use Rattle.program_words.specs.declared.words.Work.{Work}
+use Rattle.program_words.specs.declared.words.Work.TheVariants as work
+use Rattle.module_works.specs.Works.{exit_status, line_status, summary_of, RunsWork, LeavesWork}
 
 -- where no call failed, what a work leaves is its run
 pub work_of : {V : Type 0} (w : Work) (calls : Calls V) (s : MachineState V) (events : List Sample) (status : ℕ) (m : ModuleView V) (bytes before : List ℕ) (left : List Sample) (after : Streams)

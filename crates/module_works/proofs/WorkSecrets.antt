@@ -14,10 +14,10 @@ use Rattle.command_serving.proofs.SecretStreams.{IsServedBy, OtherServed, stream
 use Rattle.line_serving.specs.LineSecrets.{OtherLinesRun, VariantLinesRunAlike}
 use Rattle.line_serving.specs.Operating.{last_text}
 use Rattle.line_serving.proofs.LineSecrets.{lines_alike}
-use Rattle.module_top.specs.declared.words.Work.{Work}
-use Rattle.module_top.specs.declared.words.Work.TheVariants as work
+use Rattle.program_words.specs.declared.words.Work.{Work}
+use Rattle.program_words.specs.declared.words.Work.TheVariants as work
 use Rattle.module_top.specs.Secrets.{AreVariants, written_replies}
-use Rattle.module_top.specs.Works.{RunsWork}
+use Rattle.module_works.specs.Works.{RunsWork}
 
 -- the run over other input: its replies agree with these, and the same end is written behind them
 pub record OtherWork {V : Type 0} (w : Work) (calls : Calls V) (s : MachineState V) (events : List Sample) (other : List ℕ) (pairs : List CommandPair) (status : ℕ) (replies : List ReplyFrame) (end : List ℕ) : Type 0 where
