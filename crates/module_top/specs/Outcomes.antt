@@ -14,6 +14,7 @@ use Rattle.vector_reports.specs.Reporting.{Reports}
 use Rattle.state_model.specs.ModuleView.{ModuleView}
 use Rattle.state_model.specs.MachineState.{MachineState, initial_state}
 use Rattle.vault_backup.specs.declared.limits.TheConstants.{BACKUP_MOST}
+use Rattle.backup_runs.specs.TwoKeys.{AreKeys}
 use Rattle.backup_runs.specs.declared.limits.TheConstants.{KEYS_LENGTH}
 use Rattle.program_words.specs.declared.faults.RunFault.{RunFault}
 use Rattle.program_words.specs.declared.faults.RunFault.TheVariants as fault
@@ -24,7 +25,7 @@ use Rattle.program_words.specs.Forms.{FormValue, NamesValue, OnModule, Digest, V
 use Rattle.module_works.specs.Works.{LeavesWork, WritesText}
 use Rattle.module_works.specs.WorkOutcomes.{work_reads}
 use Rattle.module_top.specs.declared.limits.TheConstants.{LARGEST_IMAGE}
-use Rattle.module_top.specs.Program.{AreKeys, check_status, report_status, digest_line, HasNoise}
+use Rattle.module_top.specs.Program.{check_status, report_status, digest_line, HasNoise}
 
 abbrev pub reads_source : FormValue → Bool
 reads_source (OnModule work names) = work_reads work
@@ -54,7 +55,7 @@ HasNoDigest files name = (text : List ℕ) × HasFile files name text × (digest
 -- where there is a name, the file of this name is of two keys, or isn't
 abbrev pub HasKeyFile : FilesContent → (name : Option (List ℕ)) → Type 0
 HasKeyFile files None = Unit {0}
-HasKeyFile files (Some name) = (keys : List ℕ) × HasFile files name keys × (length keys ≡ KEYS_LENGTH)
+HasKeyFile files (Some name) = (keys : List ℕ) × HasFile files name keys × AreKeys keys
 
 abbrev pub HasNoKeyFile : FilesContent → (name : Option (List ℕ)) → Type 0
 HasNoKeyFile files None = ⊥
@@ -107,6 +108,13 @@ abbrev pub AreKeysOf : (name : Option (List ℕ)) → List ℕ → Type 0
 AreKeysOf None keys = keys ≡ []
 AreKeysOf (Some name) keys = AreKeys keys
 
+-- Image, digest and keys were loaded, and are as they are to be. Where the files tell, they are those of the names.
+pub record AreLoaded (files : Option FilesContent) (names : NamesValue) (image text digest keys : List ℕ) : Type 0 where
+  pub fits : length image ≤ LARGEST_IMAGE
+  pub spelled : digest_of text ≡ Some digest
+  pub are_keys : AreKeysOf names.keys keys
+  pub named : IfSome files (λ all. HasFile all names.image image × HasFile all names.digest text × IsNamedFile all names.keys keys)
+
 -- The work was done on a module with the image, digest, keys, backup and noise that were loaded. Where the files tell, they are those of the names.
 pub record IsWorkedOn {V : Type 0} (work : Work) (calls : Calls V) (engine : V) (files : Option FilesContent) (names : NamesValue) (status : ℕ) (before after : Streams) : Type 0 where
   pub image : List ℕ
@@ -117,11 +125,9 @@ pub record IsWorkedOn {V : Type 0} (work : Work) (calls : Calls V) (engine : V) 
   pub events : List Sample
   pub left : List Sample
   pub view : ModuleView V
-  pub fits : length image ≤ LARGEST_IMAGE
-  pub spelled : digest_of text ≡ Some digest
-  pub are_keys : AreKeysOf names.keys keys
+  pub loaded : AreLoaded files names image text digest keys
   pub backup_fits : length backup ≤ BACKUP_MOST
-  pub named : IfSome files (λ all. HasFile all names.image image × HasFile all names.digest text × IsNamedFile all names.keys keys × IsNamedFile all names.backup backup × HasNoise all names.noise events)
+  pub named : IfSome files (λ all. IsNamedFile all names.backup backup × HasNoise all names.noise events)
   pub leaves : LeavesWork work keys backup calls status (initial_state engine image digest) view before after events left
 
 -- The line of the digest of the image that was loaded was written, or up to a failed write a part of it.

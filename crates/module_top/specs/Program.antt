@@ -1,6 +1,5 @@
 -- What the program answers to its words, its files and its input, and what it writes.
 use Rattle.std.specs.Prelude.{◌≡◌, ◌≢◌, ◌≤◌, ◌++◌, ◌⊎◌, ℕ, List, [], ◌∷◌, Option, Some, None, MatchOption, length}
-use Rattle.bits_core.specs.ByteList.{IsBytes}
 use Rattle.hex.specs.Hex.{encode_lower}
 use Rattle.engine_core.specs.Calls.{Calls}
 use Rattle.outside.specs.declared.traits.Sample.{Sample}
@@ -14,6 +13,7 @@ use Rattle.vector_reports.specs.declared.reporting.Reported.{Reported}
 use Rattle.vector_reports.specs.declared.reporting.Reported.TheVariants as reported
 use Rattle.vector_reports.specs.Runs.{RunsVectors}
 use Rattle.vault_backup.specs.declared.limits.TheConstants.{BACKUP_MOST}
+use Rattle.backup_runs.specs.TwoKeys.{AreKeys}
 use Rattle.backup_runs.specs.declared.limits.TheConstants.{KEYS_LENGTH}
 use Rattle.program_words.specs.declared.words.Work.{Work}
 use Rattle.program_words.specs.DigestFile.{digest_of}
@@ -60,11 +60,6 @@ WithImage files name status out Follows = WithFile LARGEST_IMAGE 9 files name st
 -- the digest file of this name isn't of its form, or it is and something follows from the digest that it spells
 abbrev pub WithDigest : FilesContent → (name : List ℕ) (status : ℕ) (out : List ℕ) → (List ℕ → Type 0) → Type 0
 WithDigest files name status out Follows = (text : List ℕ) × HasFile files name text × MatchOption (digest_of text) (IsRefused 11 status out) Follows
-
--- two keys of 32 bytes, one behind the other
-pub record AreKeys (keys : List ℕ) : Type 0 where
-  pub bytes : IsBytes keys
-  pub long : length keys ≡ KEYS_LENGTH
 
 -- where there is a name, the file of this name isn't of two keys, or it is and something follows from them; and without a name from none
 abbrev pub WithKeys : FilesContent → (name : Option (List ℕ)) (status : ℕ) (out : List ℕ) → (List ℕ → Type 0) → Type 0

@@ -32,6 +32,7 @@ use Rattle.backup_runs.specs.declared.backing_up.BackedUp.TheVariants as backed_
 use Rattle.backup_runs.specs.declared.restoring.Restored.{Restored}
 use Rattle.backup_runs.specs.declared.restoring.Restored.TheVariants as restored
 use Rattle.backup_runs.specs.BackingUp.{BacksUp}
+use Rattle.backup_runs.specs.TwoKeys.{AreKeys}
 use Rattle.backup_runs.specs.Restoring.{RestoresAndOperates}
 use Rattle.module_works.specs.Works.{backup_status, exit_status, line_status, restored_status, written_status, SessionRun}
 
@@ -306,19 +307,19 @@ restored_write_fault (restored.Operated answer) h = ap (λ a. restored.Operated 
 
 -- lines were answered behind a restored backup, or there was none
 pub lines_restored : {V S K : Type 0} (keys backup : List ℕ) (calls : Calls V) (s : MachineState V) (answer : Restored) (status : ℕ) (noise noise' : Option (List Sample)) (view : ModuleView V) (before after : Met S K)
-    → status ≡ restored_status answer → Explained noise noise' (RestoresAndOperates calls answer CHUNK keys backup s view before.streams after.streams)
+    → AreKeys keys → status ≡ restored_status answer → Explained noise noise' (RestoresAndOperates calls answer CHUNK keys backup s view before.streams after.streams)
     → (((last : Operated) → answer ≢ restored.Operated last) → (after.source ≡ before.source) × (after.sink ≡ before.sink))
     → (answer ≡ restored.Operated operated.ReadFault → FaultCounted before.read_faults after.read_faults) → (answer ≢ restored.Operated operated.ReadFault → after.read_faults ≡ before.read_faults)
     → (answer ≡ restored.Operated operated.WriteFault → FaultCounted before.write_faults after.write_faults) → (answer ≢ restored.Operated operated.WriteFault → after.write_faults ≡ before.write_faults)
     → IsWorkOutcome work.Restore keys backup calls s noise noise' status before after
-lines_restored keys backup calls s answer status noise noise' view before after is served untouched read reads write writes =
+lines_restored keys backup calls s answer status noise noise' view before after are is served untouched read reads write writes =
     let isn't : is_refusal status ≡ false = ap is_refusal is ∙ no_restored_refusal answer in record {
       only_memory = λ refusal. let never : true ≡ false = sym refusal ∙ isn't in cc never;
       untouched = λ stops. elim stops [
         | inl seven ↦ absurd (never_seven isn't seven)
         | inr fifteen ↦ untouched (refused_operates_none answer (sym is ∙ fifteen))
       ];
-      worked = λ _. (view, explained_by _ _ served (λ events left restores. (answer, is, restores)));
+      worked = λ _. (view, explained_by _ _ served (λ events left restores. (are, (answer, is, restores))));
       source_stays = λ e. let never : true ≡ false = e in cc never;
       read_fault = λ five. read (restored_read_fault answer (sym is ∙ five));
       reads_unchanged = λ other. reads (λ e. other (is ∙ ap restored_status e));
