@@ -28,7 +28,7 @@ use Rattle.module_top.specs.Outcomes.{reads_source, AreKeysOf, AreLoaded, Backup
 use Rattle.module_top.proofs.NamedFiles.{not_above, image_fits, digest_is, keys_are, long_no_digest, long_no_keys, long_no_backup}
 
 -- where files tell, a fact about them gives another
-told : {P Q : FilesContent → Type 0} (files : Option FilesContent) → ((all : FilesContent) → P all → Q all) → IfSome files P → IfSome files Q
+pub told : {P Q : FilesContent → Type 0} (files : Option FilesContent) → ((all : FilesContent) → P all → Q all) → IfSome files P → IfSome files Q
 told None each h = tt
 told (Some all) each h = each all h
 
@@ -225,8 +225,14 @@ backup_refused {V} {S} {K} calls engine files work names image text digest keys 
       untouched = λ _. (refl, refl);
       source_stays = λ _ _ _. refl;
       suits = later files work names image text digest keys 15 loaded (λ e. omega arith) (λ e. omega arith) (λ e. omega arith) (any_files files (λ all _. refl));
-      done = λ _. inr ((refl, told files (λ all found. (found.0.0, found.0.1, found.0.2, found.1))
-          (both (λ all. HasImage all names.image × HasDigest all names.digest × HasKeyFile all names.keys) (λ all. HasLongFile all names.backup) files (loaded_there files names image text digest keys loaded) long)), refl);
+      done = λ _. inr (
+        (
+          refl,
+          told files (λ all found. (found.0.0, found.0.1, found.0.2, found.1))
+              (both (λ all. HasImage all names.image × HasDigest all names.digest × HasKeyFile all names.keys) (λ all. HasLongFile all names.backup) files (loaded_there files names image text digest keys loaded) long),
+        ),
+        refl,
+      );
       file_fault = λ e. omega arith;
       files_unchanged = λ _. same;
       read_fault = λ e. omega arith;
@@ -394,8 +400,17 @@ backup_too_long {V} calls engine files work names status bytes fifteen long =
     let (text, has_text, digest, spelled) = long.1 in
     let Rest : List ℕ → Type 0 = λ digest. WithKeys files names.keys status [] (λ keys. WithBackup files names.backup status [] (λ backup. WorksOn work calls engine files names.noise bytes status [] image digest keys backup)) in
     let Spells : Option (List ℕ) → Type 0 = λ found. MatchOption found (IsRefused 11 status []) Rest in
-    inr (image, has_image, fits, (text, has_text, subst Spells (sym spelled) (past_keys names.keys long.2 (λ keys. WithBackup files names.backup status [] (λ backup. WorksOn work calls engine files names.noise bytes status [] image digest keys backup))
-    (λ keys. too_long names.backup long.3 _))))
+    inr (
+      image,
+      has_image,
+      fits,
+      (
+        text,
+        has_text,
+        subst Spells (sym spelled) (past_keys names.keys long.2 (λ keys. WithBackup files names.backup status [] (λ backup. WorksOn work calls engine files names.noise bytes status [] image digest keys backup))
+            (λ keys. too_long names.backup long.3 _)),
+      ),
+    )
   where
     too_long : (name : Option (List ℕ)) → HasLongFile files name → (Follows : List ℕ → Type 0) → WithBackup files name status [] Follows
     too_long None h Follows = absurd h
@@ -505,7 +520,7 @@ program_output {V} calls engine files of status before after bytes gained outcom
     by true is = (
       [],
       refusal_output calls engine files of status bytes (refusals status is no_memory no_file) outcome.usage.0 (outcome.suits no_memory no_file).image_too_long.0 (outcome.suits no_memory no_file).bad_digest.0
-      (outcome.suits no_memory no_file).bad_keys.0,
+          (outcome.suits no_memory no_file).bad_keys.0,
       stays (outcome.untouched (inl is)).1 ∙ ap (λ (s : Streams). s.gained) tells ∙ ap Some (sym (append-nil gained)),
     )
     by false isn't =
