@@ -138,6 +138,10 @@ def told(keys, backup, with_keys):
     return lines
 
 
+def in_words(backup, lines):
+    return [f"a backup of {len(backup):,} bytes, slots kept: {len(lines)}", *lines]
+
+
 def main(words):
     with_keys = words[:1] == ["--with-keys"]
     names = words[1:] if with_keys else words
@@ -155,7 +159,7 @@ def main(words):
     except Wrong as fault:
         print(f"read_backup: {names[1]}: {fault}", file=sys.stderr)
         return 1
-    print("\n".join([f"a backup of {len(backup):,} bytes, slots kept: {len(lines)}", *lines]))
+    print("\n".join(in_words(backup, lines)))
     return 0
 
 
