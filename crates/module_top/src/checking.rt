@@ -13,7 +13,7 @@ use engine_core::Engine;
 use outside::{Sink, Source};
 use std::alloc::{AllocError, Global};
 use stream_calls::CHUNK;
-use transcript_check::Pairs;
+use transcript_pairs::Pairs;
 use transcript_report::{Checked, check_transcript};
 
 // Takes all the memory, and then checks. Without memory nothing is read or written.
