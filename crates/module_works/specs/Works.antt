@@ -25,6 +25,7 @@ use Rattle.backup_runs.specs.declared.backing_up.BackedUp.TheVariants as backed_
 use Rattle.backup_runs.specs.declared.restoring.Restored.{Restored}
 use Rattle.backup_runs.specs.declared.restoring.Restored.TheVariants as restored
 use Rattle.backup_runs.specs.BackingUp.{BacksUp, RunsBackup}
+use Rattle.backup_runs.specs.TwoKeys.{AreKeys}
 use Rattle.backup_runs.specs.Restoring.{RestoresAndOperates, RunsRestored}
 use Rattle.session_runs.specs.Summaries.{summary}
 use Rattle.program_words.specs.declared.words.Work.{Work}
@@ -76,7 +77,8 @@ RunsWork {V} work.Serve keys backup calls s events bytes status out =
 RunsWork work.Operate keys backup calls s events bytes status out = (answer : Operated) × (status ≡ line_status answer) × RunsLines calls s events bytes answer out
 RunsWork (work.Session seed count) keys backup calls s events bytes status out = (status ≡ 0) × (out ≡ summary_of calls s events seed count)
 RunsWork work.Backup keys backup calls s events bytes status out = (answer : BackedUp) × (status ≡ backup_status answer) × RunsBackup calls keys s events bytes answer out
-RunsWork work.Restore keys backup calls s events bytes status out = (answer : Restored) × (status ≡ restored_status answer) × RunsRestored calls keys backup s events bytes answer out
+RunsWork work.Restore keys backup calls s events bytes status out =
+    AreKeys keys × ((answer : Restored) × (status ≡ restored_status answer) × RunsRestored calls keys backup s events bytes answer out)
 
 -- a text was written whole, or up to a failed write a part of it
 abbrev pub WritesText : (text : List ℕ) → (status : ℕ) → (before after : Option (List ℕ)) → Type 0
@@ -100,4 +102,4 @@ LeavesWork work.Operate keys backup calls status s m before after events left = 
 LeavesWork (work.Session seed count) keys backup calls status s m before after events left = SessionRun calls seed count s m status before.gained after.gained events left
 LeavesWork work.Backup keys backup calls status s m before after events left = (answer : BackedUp) × (status ≡ backup_status answer) × BacksUp calls answer CHUNK keys s m before after events left
 LeavesWork work.Restore keys backup calls status s m before after events left =
-    (answer : Restored) × (status ≡ restored_status answer) × RestoresAndOperates calls answer CHUNK keys backup s m before after events left
+    AreKeys keys × ((answer : Restored) × (status ≡ restored_status answer) × RestoresAndOperates calls answer CHUNK keys backup s m before after events left)

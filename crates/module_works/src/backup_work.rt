@@ -1,5 +1,5 @@
 // The backup of what lines have made.
-ghost use Rattle.std.specs.Prelude.{◌≡◌, ◌≢◌, [], length, IfOk, OnErr};
+ghost use Rattle.std.specs.Prelude.{◌≡◌, ◌≢◌, ℕ, List, length, IfOk, OnErr};
 ghost use Rattle.outside.specs.Explained.{Explained};
 ghost use Rattle.outside.specs.Faults.{FaultCounted};
 ghost use Rattle.state_model.specs.ModuleView.{ModuleView};
@@ -90,7 +90,7 @@ pub fn back_up_lines<E: Engine, N: Noise, S: Source, K: Sink>(
     backup: &mut K,
 ) -> Result<(), RunFault>
     requires { length keys.old ≡ KEYS_LENGTH }
-    ensures outcome { IsWorkOutcome work.Backup keys.old [] E.calls (initial_state engine image.items digest) (N.left noise.old) (N.left noise.new) (result_status result)
+    ensures outcome { (unused : List ℕ) → IsWorkOutcome work.Backup keys.old unused E.calls (initial_state engine image.items digest) (N.left noise.old) (N.left noise.new) (result_status result)
         (record {
           source = lines.old;
           sink = backup.old;

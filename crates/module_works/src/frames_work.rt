@@ -1,5 +1,5 @@
 // Frames that are served from a source.
-ghost use Rattle.std.specs.Prelude.{◌≡◌, ◌≢◌, [], IfOk, OnErr};
+ghost use Rattle.std.specs.Prelude.{◌≡◌, ◌≢◌, ℕ, List, IfOk, OnErr};
 ghost use Rattle.outside.specs.Explained.{Explained};
 ghost use Rattle.outside.specs.Faults.{FaultCounted};
 ghost use Rattle.state_model.specs.ModuleView.{ModuleView};
@@ -83,7 +83,7 @@ pub fn serve_frames<E: Engine, N: Noise, S: Source, K: Sink>(
     commands: &mut S,
     replies: &mut K,
 ) -> Result<(), RunFault>
-    ensures outcome { IsWorkOutcome work.Serve [] [] E.calls (initial_state engine image.items digest) (N.left noise.old) (N.left noise.new) (result_status result)
+    ensures outcome { (keys backup : List ℕ) → IsWorkOutcome work.Serve keys backup E.calls (initial_state engine image.items digest) (N.left noise.old) (N.left noise.new) (result_status result)
         (record {
           source = commands.old;
           sink = replies.old;

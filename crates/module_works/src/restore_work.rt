@@ -1,5 +1,6 @@
 // Lines that are served from what a backup restores.
 ghost use Rattle.std.specs.Prelude.{◌≡◌, ◌≢◌, length, IfOk, OnErr};
+ghost use Rattle.bits_core.specs.ByteList.{IsBytes};
 ghost use Rattle.outside.specs.Explained.{Explained};
 ghost use Rattle.outside.specs.Faults.{FaultCounted};
 ghost use Rattle.state_model.specs.ModuleView.{ModuleView};
@@ -81,6 +82,13 @@ fn fault_of(answer: Restored) -> Result<(), RunFault>
     }
 }
 
+// Does nothing: that these are bytes is known where a slice is a parameter.
+fn known_bytes(bytes: &[u8])
+    ensures { IsBytes bytes.now }
+{
+    let _ = bytes;
+}
+
 /// Restores a backup under the two keys, which have 64 bytes, into a module that is opened with engine, image and digest, and with this noise, and
 /// answers lines by it.
 pub fn operate_restored<E: Engine, N: Noise, S: Source, K: Sink>(
@@ -111,6 +119,7 @@ pub fn operate_restored<E: Engine, N: Noise, S: Source, K: Sink>(
           write_faults = K.faults replies.new;
         }) }
 {
+    known_bytes(keys);
     match open_and_restore(
         alloc, keys, backup, engine, image, digest, noise, lines, replies,
     ) {

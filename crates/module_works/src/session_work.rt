@@ -1,5 +1,5 @@
 // A session, and its summary.
-ghost use Rattle.std.specs.Prelude.{◌≡◌, ◌≢◌, [], None, IfOk, OnOk, OnErr};
+ghost use Rattle.std.specs.Prelude.{◌≡◌, ◌≢◌, ℕ, List, None, IfOk, OnOk, OnErr};
 ghost use Rattle.outside.specs.Explained.{Explained};
 ghost use Rattle.outside.specs.Faults.{FaultCounted};
 ghost use Rattle.state_model.specs.ModuleView.{ModuleView};
@@ -65,7 +65,7 @@ pub fn summarise<E: Engine, N: Noise, K: Sink>(
     noise: &mut N,
     out: &mut K,
 ) -> Result<(), RunFault>
-    ensures outcome { IsWorkOutcome (work.Session seed count) [] [] E.calls (initial_state engine image.items digest) (N.left noise.old) (N.left noise.new) (result_status result)
+    ensures outcome { (keys backup : List ℕ) → IsWorkOutcome (work.Session seed count) keys backup E.calls (initial_state engine image.items digest) (N.left noise.old) (N.left noise.new) (result_status result)
         (record {
           source = tt {0};
           sink = out.old;

@@ -1,13 +1,15 @@
 //! The services that draw, over noise that counts up, with values of the standard's steps over Python's hmac.
-ghost use Rattle.std.specs.Prelude.{◌≤◌, ℕ, List};
+ghost use Rattle.std.specs.Prelude.{◌≡◌, ◌≤◌, ℕ, List, IsTrue, MatchOption};
+ghost use Rattle.std.specs.Bool.{⊤};
+ghost use Rattle.bits_core.specs.declared.limits.TheConstants.{LARGEST_PAYLOAD};
+ghost use Rattle.bits_core.specs.Parameters.{length_fits};
 ghost use Rattle.noise_health.specs.Counts.{Counts};
 
-use super::{
-    Bench, bench_over, draw_rows as rows, expect_given, expect_parameter, front, outcome, put,
-    refused, slot_at,
-};
+use super::{draw_rows as rows, outcome, slot_at};
 use crate::{Outcome, Parts, generate, random, reseed, seed};
-use bits_core::{Alg, Domain, Enabled, Header, Inhibited, Kind, LARGEST_PAYLOAD, Port, fits};
+use bits_core::{
+    Alg, Domain, Enabled, Header, Inhibited, Kind, LARGEST_PAYLOAD, Outbox, Port, SlotId,
+};
 use engine_core::{Engine, Shipped};
 use noise_health::Health;
 use outside::{MemNoise, Noise, Sample};
@@ -26,15 +28,15 @@ pub(super) fn counting(alloc: Global, count: usize) -> Result<MemNoise, AllocErr
     Ok(MemNoise::new(events))
 }
 
-// A bench whose generator was seeded.
+// Parts whose generator was seeded.
 pub(super) fn seeded(
     rt: &impl Abort,
     alloc: Global,
     noise: &mut MemNoise,
-) -> Result<Bench<Shipped>, AllocError> {
-    let mut bench = bench_over(alloc, Shipped::new())?;
-    match seed(&mut bench.parts, noise) {
-        Ok(_) => Ok(bench),
+) -> Result<Parts<Shipped>, AllocError> {
+    let mut parts = Parts::new(alloc, Shipped::new())?;
+    match seed(&mut parts, noise) {
+        Ok(_) => Ok(parts),
         Err(_) => panic!(rt; "the noise failed"),
     }
 }
@@ -48,74 +50,56 @@ pub(super) fn expect_ready(rt: &impl Abort, parts: &mut Parts<Shipped>)
     assert!(rt; parts.drbg.counter >= 1);
 }
 
-// Random bits, in the outbox.
+// Random bits in `outbox`.
 fn random_in(
     rt: &impl Abort,
-    bench: &mut Bench<Shipped>,
+    parts: &mut Parts<Shipped>,
     noise: &mut MemNoise,
     count: usize,
     additional: &[u8],
-) -> Outcome {
-    assert!(rt; 1 <= count && count <= 65_536);
-    assert!(rt; bench.outbox.room() >= LARGEST_PAYLOAD);
-    expect_ready(rt, &mut bench.parts);
-    let mut port = Port::<Enabled>::over(&mut bench.outbox);
-    random(&mut bench.parts, noise, count, additional, &mut port)
-}
-
-fn expect_random(
-    rt: &impl Abort,
-    bench: &mut Bench<Shipped>,
-    noise: &mut MemNoise,
-    count: usize,
-    additional: &[u8],
-    want: Outcome,
-    payload: &[u8],
-) {
-    let answer = random_in(rt, bench, noise, count, additional);
-    expect_given(rt, &bench.outbox, answer, want, payload);
+    outbox: &mut Outbox,
+) -> Outcome
+    requires least { 1 ≤ count }
+    requires most { count ≤ 65536 }
+    requires room { LARGEST_PAYLOAD ≤ outbox.old.room }
+    ensures { outbox.new.room ≡ outbox.old.room }
+{
+    expect_ready(rt, parts);
+    let mut port = Port::<Enabled>::over(outbox);
+    random(parts, noise, count, additional, &mut port)
 }
 
 // A drawn parameter for slot 2.
-fn expect_generated(
+fn generate_in(
     rt: &impl Abort,
-    bench: &mut Bench<Shipped>,
+    parts: &mut Parts<Shipped>,
     noise: &mut MemNoise,
-    header: Header,
+    header: &Header,
     count: usize,
-    want: Outcome,
-) {
-    let slot = slot_at(rt, 2);
-    assert!(rt; header.uses >= 1);
-    assert!(rt; fits(header.kind, header.domain, count));
-    expect_ready(rt, &mut bench.parts);
-    let mut port = Port::<Inhibited>::over(&mut bench.outbox);
-    let answer = generate(&mut bench.parts, noise, slot, &header, count, &mut port);
-    drop(port);
-    expect_given(rt, &bench.outbox, answer, want, b"");
+    outbox: &mut Outbox,
+) -> Outcome
+    requires fits { IsTrue (length_fits header.now.kind header.now.domain count) }
+    requires uses { 1 ≤ header.now.uses }
+    ensures { outbox.new.room ≡ outbox.old.room }
+{
+    expect_ready(rt, parts);
+    let mut port = Port::<Inhibited>::over(outbox);
+    generate(parts, noise, slot_at(2), header, count, &mut port)
 }
 
 // A new seed.
-fn expect_reseeded(
+fn reseed_in(
     rt: &impl Abort,
-    bench: &mut Bench<Shipped>,
+    parts: &mut Parts<Shipped>,
     noise: &mut MemNoise,
     additional: &[u8],
-    want: Outcome,
-) {
-    expect_ready(rt, &mut bench.parts);
-    let mut port = Port::<Inhibited>::over(&mut bench.outbox);
-    let answer = reseed(&mut bench.parts, noise, additional, &mut port);
-    drop(port);
-    expect_given(rt, &bench.outbox, answer, want, b"");
-}
-
-// The key, the value and the counter of the generator.
-fn expect_generator(rt: &impl Abort, bench: &Bench<Shipped>, k: &[u8], v: &[u8], counter: u32) {
-    let drbg = &bench.parts.drbg;
-    assert_eq!(rt; drbg.k.as_slice(), k);
-    assert_eq!(rt; drbg.v.as_slice(), v);
-    assert_eq!(rt; drbg.counter, counter);
+    outbox: &mut Outbox,
+) -> Outcome
+    ensures { outbox.new.room ≡ outbox.old.room }
+{
+    expect_ready(rt, parts);
+    let mut port = Port::<Inhibited>::over(outbox);
+    reseed(parts, noise, additional, &mut port)
 }
 
 const AES: Header = Header {
@@ -147,69 +131,73 @@ pub(super) fn failed(failure: Failure) -> Outcome {
     }
 }
 
-// The digest of the largest draw, which stands in the outbox.
-fn expect_largest(rt: &impl Abort, bench: &Bench<Shipped>) {
-    let mut digest = [0; 64];
-    assert_eq!(rt; bench.outbox.bytes().len(), 65_536);
-    Shipped::new().hash(Alg::Sha256, bench.outbox.bytes(), &mut digest);
-    assert_eq!(rt; front(&digest, 32), rows::largest_digest());
+// A SHA-256 digest, among the bytes that an engine gives it in.
+fn first_half(out: &[u8; 64]) -> &[u8] {
+    &out[..32]
 }
 
 #[test]
 fn random_bits_come_out(rt: HostRuntime) -> Result<(), Fail> {
     let mut noise = counting(rt.alloc(), 1_408)?;
-    let mut bench = seeded(&rt, rt.alloc(), &mut noise)?;
-    let done = outcome(Status::Ok, true);
-    expect_random(&rt, &mut bench, &mut noise, 1, &[], done, rows::one_byte());
-    let forty = rows::forty_bytes();
-    expect_random(&rt, &mut bench, &mut noise, 40, b"more", done, forty);
-    let answer = random_in(&rt, &mut bench, &mut noise, 65_536, b"more");
-    assert_eq!(rt; answer, done);
-    expect_largest(&rt, &bench);
+    let mut parts = seeded(&rt, rt.alloc(), &mut noise)?;
+    let mut outbox = Outbox::new(rt.alloc(), LARGEST_PAYLOAD)?;
+    let answer = random_in(&rt, &mut parts, &mut noise, 1, &[], &mut outbox);
+    assert_eq!(rt; answer, outcome(Status::Ok, true));
+    assert_eq!(rt; outbox.bytes(), rows::ONE_BYTE.as_slice());
+    let answer = random_in(&rt, &mut parts, &mut noise, 40, b"more", &mut outbox);
+    assert_eq!(rt; answer, outcome(Status::Ok, true));
+    assert_eq!(rt; outbox.bytes(), rows::FORTY_BYTES.as_slice());
+    let answer = random_in(&rt, &mut parts, &mut noise, 65_536, b"more", &mut outbox);
+    assert_eq!(rt; answer, outcome(Status::Ok, true));
+    assert_eq!(rt; outbox.bytes().len(), 65_536);
+    let mut digest = [0; 64];
+    Shipped::new().hash(Alg::Sha256, outbox.bytes(), &mut digest);
+    assert_eq!(rt; first_half(&digest), rows::LARGEST_DIGEST.as_slice());
     Ok(())
 }
 
 #[test]
 fn drawn_keys_fill_slots(rt: HostRuntime) -> Result<(), Fail> {
     let mut noise = counting(rt.alloc(), 1_408)?;
-    let mut bench = seeded(&rt, rt.alloc(), &mut noise)?;
-    expect_generated(
-        &rt,
-        &mut bench,
-        &mut noise,
-        AES,
-        32,
-        outcome(Status::Ok, true),
-    );
-    expect_parameter(&rt, &bench, 2, AES, rows::approved_key());
-    let full = refused(Status::OccupiedSlot);
-    expect_generated(&rt, &mut bench, &mut noise, MAC, 14, full);
-    expect_parameter(&rt, &bench, 2, AES, rows::approved_key());
-    bench.parts.vault.zeroise(slot_at(&rt, 2));
-    expect_generated(
-        &rt,
-        &mut bench,
-        &mut noise,
-        KDF,
-        3,
-        outcome(Status::Ok, false),
-    );
-    expect_parameter(&rt, &bench, 2, KDF, rows::other_key());
-    assert_eq!(rt; bench.parts.drbg.counter, 4);
+    let mut parts = seeded(&rt, rt.alloc(), &mut noise)?;
+    let mut outbox = Outbox::new(rt.alloc(), 4)?;
+    let slot = slot_at(2);
+    let answer = generate_in(&rt, &mut parts, &mut noise, &AES, 32, &mut outbox);
+    assert_eq!(rt; answer, outcome(Status::Ok, true));
+    assert_eq!(rt; parts.vault.show(slot).header, Some(AES));
+    assert_eq!(rt; parts.vault.bytes(slot), rows::APPROVED_KEY.as_slice());
+    let answer = generate_in(&rt, &mut parts, &mut noise, &MAC, 14, &mut outbox);
+    assert_eq!(rt; answer, outcome(Status::OccupiedSlot, false));
+    assert_eq!(rt; parts.vault.show(slot).header, Some(AES));
+    assert_eq!(rt; parts.vault.bytes(slot), rows::APPROVED_KEY.as_slice());
+    parts.vault.zeroise(slot);
+    let answer = generate_in(&rt, &mut parts, &mut noise, &KDF, 3, &mut outbox);
+    assert_eq!(rt; answer, outcome(Status::Ok, false));
+    assert_eq!(rt; parts.vault.show(slot).header, Some(KDF));
+    assert_eq!(rt; parts.vault.bytes(slot), rows::OTHER_KEY.as_slice());
+    assert_eq!(rt; parts.drbg.counter, 4);
+    assert_eq!(rt; outbox.bytes().len(), 0);
     Ok(())
 }
 
 #[test]
 fn draws_and_commands_reseed(rt: HostRuntime) -> Result<(), Fail> {
     let mut noise = counting(rt.alloc(), 1_920)?;
-    let mut bench = seeded(&rt, rt.alloc(), &mut noise)?;
-    let done = outcome(Status::Ok, true);
+    let mut parts = seeded(&rt, rt.alloc(), &mut noise)?;
+    let mut outbox = Outbox::new(rt.alloc(), LARGEST_PAYLOAD)?;
     // As after 1,024 requests.
-    bench.parts.drbg.counter = 1_025;
-    let twelve = rows::reseeded_bytes();
-    expect_random(&rt, &mut bench, &mut noise, 12, b"more", done, twelve);
-    expect_reseeded(&rt, &mut bench, &mut noise, b"input", done);
-    expect_generator(&rt, &bench, rows::reseeded_k(), rows::reseeded_v(), 1);
+    parts.drbg.counter = 1_025;
+    let answer = random_in(&rt, &mut parts, &mut noise, 12, b"more", &mut outbox);
+    assert_eq!(rt; answer, outcome(Status::Ok, true));
+    assert_eq!(rt; outbox.bytes(), rows::RESEEDED_BYTES.as_slice());
+    let answer = reseed_in(&rt, &mut parts, &mut noise, b"input", &mut outbox);
+    assert_eq!(rt; answer, outcome(Status::Ok, true));
+    assert_eq!(rt; outbox.bytes().len(), 0);
+    let drbg = &parts.drbg;
+    assert_eq!(rt;
+        (drbg.k, drbg.v, drbg.counter),
+        (rows::RESEEDED_K, rows::RESEEDED_V, 1)
+    );
     assert_eq!(rt; noise.next(), Sample::Failed);
     Ok(())
 }
@@ -217,17 +205,23 @@ fn draws_and_commands_reseed(rt: HostRuntime) -> Result<(), Fail> {
 #[test]
 fn failed_noise_comes_first(rt: HostRuntime) -> Result<(), Fail> {
     let mut noise = counting(rt.alloc(), 1_663)?;
-    let mut bench = seeded(&rt, rt.alloc(), &mut noise)?;
-    put(&rt, &mut bench, 2, MAC, b"fourteen bytes");
-    bench.parts.drbg.counter = 1_025;
-    let (k, v) = (bench.parts.drbg.k, bench.parts.drbg.v);
+    let mut parts = seeded(&rt, rt.alloc(), &mut noise)?;
+    let mut outbox = Outbox::new(rt.alloc(), LARGEST_PAYLOAD)?;
+    let slot = slot_at(2);
+    assert_eq!(rt; parts.vault.put(slot, &MAC, b"fourteen bytes"), Ok(()));
+    parts.drbg.counter = 1_025;
+    let (k, v) = (parts.drbg.k, parts.drbg.v);
     // One sample is missing, and the slot is full too.
-    let first = failed(Failure::NoiseFailed);
-    expect_generated(&rt, &mut bench, &mut noise, AES, 16, first);
-    let later = failed(Failure::NoiseEnded);
-    expect_random(&rt, &mut bench, &mut noise, 16, &[], later, b"");
-    expect_reseeded(&rt, &mut bench, &mut noise, &[], later);
-    expect_generator(&rt, &bench, &k, &v, 1_025);
-    expect_parameter(&rt, &bench, 2, MAC, b"fourteen bytes");
+    let answer = generate_in(&rt, &mut parts, &mut noise, &AES, 16, &mut outbox);
+    assert_eq!(rt; answer, failed(Failure::NoiseFailed));
+    let answer = random_in(&rt, &mut parts, &mut noise, 16, &[], &mut outbox);
+    assert_eq!(rt; answer, failed(Failure::NoiseEnded));
+    let answer = reseed_in(&rt, &mut parts, &mut noise, &[], &mut outbox);
+    assert_eq!(rt; answer, failed(Failure::NoiseEnded));
+    assert_eq!(rt; outbox.bytes().len(), 0);
+    let drbg = &parts.drbg;
+    assert_eq!(rt; (drbg.k, drbg.v, drbg.counter), (k, v, 1_025));
+    assert_eq!(rt; parts.vault.show(slot).header, Some(MAC));
+    assert_eq!(rt; parts.vault.bytes(slot), b"fourteen bytes".as_slice());
     Ok(())
 }

@@ -1,228 +1,209 @@
 //! The services that seal and open, with values of Python's cryptography.
+ghost use Rattle.std.specs.Prelude.{◌≡◌, ◌≤◌, ◌+◌, length};
+ghost use Rattle.bits_core.specs.declared.limits.TheConstants.{LARGEST_PAYLOAD};
+ghost use Rattle.gcm_mode.specs.Gcm.{IsIv, IsTagLength};
+
 use super::draws::{counting, expect_ready, failed, seeded};
-use super::{
-    Bench, bench_over, expect_given, expect_uses, front, header_of, outcome, put, refused,
-    seal_rows as rows, slot_at,
-};
-use crate::{Outcome, open, seal, seal_iv};
-use bits_core::{Domain, Enabled, Header, Kind, LARGEST_PAYLOAD, Port};
+use super::{expect_uses, outcome, seal_rows as rows, slot_at};
+use crate::{Outcome, Parts, open, seal, seal_iv};
+use bits_core::{Domain, Enabled, Header, Kind, LARGEST_PAYLOAD, Outbox, Port, SlotId};
 use engine_core::Shipped;
 use outside::MemNoise;
 use service_table::{Failure, Status};
 use std::process::Abort;
 use std::test::Fail;
 
-fn text() -> &'static [u8] {
-    b"what do ya want for nothing?"
-}
+const TEXT: &[u8] = b"what do ya want for nothing?";
 
-fn aes(domain: Domain, uses: u32) -> Header {
-    header_of(Kind::Aes, domain, false, uses)
-}
+const OTHER: Header = Header {
+    kind: Kind::Aes,
+    domain: Domain::Other,
+    export: false,
+    uses: 2,
+};
 
-fn kek() -> Header {
-    header_of(Kind::Kek, Domain::Approved, false, 1)
-}
+const APPROVED: Header = Header {
+    kind: Kind::Aes,
+    domain: Domain::Approved,
+    export: false,
+    uses: 3,
+};
 
-// A text sealed with an IV of the caller's.
-fn expect_seal_iv(
-    rt: &impl Abort,
-    bench: &mut Bench<Shipped>,
-    slot: u8,
+const KEK: Header = Header {
+    kind: Kind::Kek,
+    domain: Domain::Approved,
+    export: false,
+    uses: 1,
+};
+
+// A text sealed with an IV of the caller's, in `outbox`.
+fn seal_iv_in(
+    parts: &mut Parts<Shipped>,
+    slot: SlotId,
     tag_length: usize,
     iv: &[u8],
     aad: &[u8],
-    want: Outcome,
-    payload: &[u8],
-) {
-    let (slot, plain) = (slot_at(rt, slot), text());
-    assert!(rt; 12 <= tag_length && tag_length <= 16);
-    assert!(rt; 1 <= iv.len() && iv.len() <= 255);
-    assert!(rt; aad.len() <= 64 && plain.len() <= 64);
-    assert!(rt; bench.outbox.room() >= LARGEST_PAYLOAD);
-    let mut port = Port::<Enabled>::over(&mut bench.outbox);
-    let answer = seal_iv(
-        &mut bench.parts,
-        slot,
-        tag_length,
-        iv,
-        aad,
-        plain,
-        &mut port,
-    );
-    drop(port);
-    expect_given(rt, &bench.outbox, answer, want, payload);
+    outbox: &mut Outbox,
+) -> Outcome
+    requires tag { IsTagLength tag_length }
+    requires iv { IsIv iv.now }
+    requires aad { length aad.now ≤ 64 }
+    requires room { LARGEST_PAYLOAD ≤ outbox.old.room }
+    ensures { outbox.new.room ≡ outbox.old.room }
+{
+    let mut port = Port::<Enabled>::over(outbox);
+    seal_iv(parts, slot, tag_length, iv, aad, TEXT, &mut port)
 }
 
-// What is refused with the IV of twelve bytes.
-fn expect_no_seal_iv(rt: &impl Abort, bench: &mut Bench<Shipped>, slot: u8, status: Status) {
-    expect_seal_iv(rt, bench, slot, 16, rows::iv(), b"", refused(status), b"");
-}
-
-// A text opened under the IV of twelve bytes.
-fn expect_open(
-    rt: &impl Abort,
-    bench: &mut Bench<Shipped>,
-    slot: u8,
+// A text opened under the IV of twelve bytes, in `outbox`.
+fn open_in(
+    parts: &mut Parts<Shipped>,
+    slot: SlotId,
     text: &[u8],
     tag: &[u8],
-    want: Outcome,
-    payload: &[u8],
-) {
-    let (slot, iv) = (slot_at(rt, slot), rows::iv());
-    assert!(rt; 12 <= tag.len() && tag.len() <= 16);
-    assert!(rt; 1 <= iv.len() && iv.len() <= 255 && text.len() <= 64);
-    assert!(rt; bench.outbox.room() >= LARGEST_PAYLOAD);
-    let mut port = Port::<Enabled>::over(&mut bench.outbox);
-    let answer = open(&mut bench.parts, slot, iv, b"header", text, tag, &mut port);
-    drop(port);
-    expect_given(rt, &bench.outbox, answer, want, payload);
+    outbox: &mut Outbox,
+) -> Outcome
+    requires text { length text.now ≤ 64 }
+    requires tag { IsTagLength (length tag.now) }
+    requires room { LARGEST_PAYLOAD ≤ outbox.old.room }
+    ensures { outbox.new.room ≡ outbox.old.room }
+{
+    let mut port = Port::<Enabled>::over(outbox);
+    open(parts, slot, &rows::IV, b"header", text, tag, &mut port)
 }
 
-// What no text is answered with its tag.
-fn expect_open_of_none(rt: &impl Abort, bench: &mut Bench<Shipped>, slot: u8, want: Outcome) {
-    expect_open(rt, bench, slot, b"", rows::tag_alone(), want, b"");
-}
-
-// The tag of no text, with its last bit turned.
-fn turned_tag(rt: &impl Abort) -> [u8; 16] {
-    let tag = rows::tag_alone();
-    assert!(rt; tag.len() == 16);
-    let mut turned = [0; 16];
-    turned.copy_from_slice(tag);
-    turned[15] ^= 1;
-    turned
-}
-
-// A text sealed with an IV that is drawn.
-fn expect_seal(
+// A text sealed with an IV that is drawn, in `outbox`.
+fn seal_in(
     rt: &impl Abort,
-    bench: &mut Bench<Shipped>,
+    parts: &mut Parts<Shipped>,
     noise: &mut MemNoise,
-    slot: u8,
+    slot: SlotId,
     tag_length: usize,
-    want: Outcome,
-    payload: &[u8],
-) {
-    let (slot, plain) = (slot_at(rt, slot), text());
-    assert!(rt; 12 <= tag_length && tag_length <= 16);
-    assert!(rt; plain.len() <= 64);
-    assert!(rt; bench.outbox.room() >= LARGEST_PAYLOAD);
-    expect_ready(rt, &mut bench.parts);
-    let mut port = Port::<Enabled>::over(&mut bench.outbox);
-    let answer = seal(
-        &mut bench.parts,
-        noise,
-        slot,
-        tag_length,
-        b"header",
-        plain,
-        &mut port,
-    );
-    drop(port);
-    expect_given(rt, &bench.outbox, answer, want, payload);
+    outbox: &mut Outbox,
+) -> Outcome
+    requires tag { IsTagLength tag_length }
+    requires room { LARGEST_PAYLOAD ≤ outbox.old.room }
+    ensures { outbox.new.room ≡ outbox.old.room }
+{
+    expect_ready(rt, parts);
+    let mut port = Port::<Enabled>::over(outbox);
+    seal(parts, noise, slot, tag_length, b"header", TEXT, &mut port)
 }
 
 #[test]
 fn texts_are_sealed_with_the_callers_iv(rt: HostRuntime) -> Result<(), Fail> {
-    let mut bench = bench_over(rt.alloc(), Shipped::new())?;
-    put(&rt, &mut bench, 3, aes(Domain::Other, 2), rows::key());
-    let done = outcome(Status::Ok, false);
-    expect_seal_iv(
-        &rt,
-        &mut bench,
-        3,
-        16,
-        rows::iv(),
-        b"header",
-        done,
-        rows::sealed(),
-    );
-    let given = front(rows::sealed_by_long_iv(), 40);
-    expect_seal_iv(&rt, &mut bench, 3, 12, rows::long_iv(), b"", done, given);
-    let spent = refused(Status::Spent);
-    expect_seal_iv(&rt, &mut bench, 3, 16, rows::iv(), b"header", spent, b"");
+    let mut parts = Parts::new(rt.alloc(), Shipped::new())?;
+    let mut outbox = Outbox::new(rt.alloc(), LARGEST_PAYLOAD)?;
+    let slot = slot_at(3);
+    assert_eq!(rt; parts.vault.put(slot, &OTHER, &rows::KEY), Ok(()));
+    let answer = seal_iv_in(&mut parts, slot, 16, &rows::IV, b"header", &mut outbox);
+    assert_eq!(rt; answer, outcome(Status::Ok, false));
+    assert_eq!(rt; outbox.bytes(), rows::SEALED.as_slice());
+    let answer = seal_iv_in(&mut parts, slot, 12, &rows::LONG_IV, b"", &mut outbox);
+    assert_eq!(rt; answer, outcome(Status::Ok, false));
+    assert_eq!(rt; outbox.bytes(), &rows::SEALED_BY_LONG_IV[..40]);
+    let answer = seal_iv_in(&mut parts, slot, 16, &rows::IV, b"header", &mut outbox);
+    assert_eq!(rt; answer, outcome(Status::Spent, false));
+    assert_eq!(rt; outbox.bytes().len(), 0);
     Ok(())
 }
 
 #[test]
 fn texts_are_opened_where_the_tag_is_right(rt: HostRuntime) -> Result<(), Fail> {
-    let mut bench = bench_over(rt.alloc(), Shipped::new())?;
-    put(&rt, &mut bench, 15, aes(Domain::Approved, 3), rows::key());
-    let (sealed, tag) = rows::sealed().split_at_checked(28).unwrap_or((&[], &[]));
-    let done = outcome(Status::Ok, true);
-    expect_open(&rt, &mut bench, 15, sealed, front(tag, 12), done, text());
-    let wrong = refused(Status::AuthFailed);
-    expect_open(&rt, &mut bench, 15, sealed, &turned_tag(&rt), wrong, b"");
-    expect_open_of_none(&rt, &mut bench, 15, done);
-    expect_uses(&rt, &bench, 15, 0);
-    expect_open(
-        &rt,
-        &mut bench,
-        15,
-        sealed,
-        tag,
-        refused(Status::Spent),
-        b"",
-    );
+    let mut parts = Parts::new(rt.alloc(), Shipped::new())?;
+    let mut outbox = Outbox::new(rt.alloc(), LARGEST_PAYLOAD)?;
+    let slot = slot_at(15);
+    assert_eq!(rt; parts.vault.put(slot, &APPROVED, &rows::KEY), Ok(()));
+    let (text, tag) = rows::SEALED.split_at(28);
+    let answer = open_in(&mut parts, slot, text, &tag[..12], &mut outbox);
+    assert_eq!(rt; answer, outcome(Status::Ok, true));
+    assert_eq!(rt; outbox.bytes(), TEXT);
+    let mut wrong = rows::TAG_ALONE;
+    wrong[15] ^= 1;
+    let answer = open_in(&mut parts, slot, text, &wrong, &mut outbox);
+    assert_eq!(rt; answer, outcome(Status::AuthFailed, false));
+    assert_eq!(rt; outbox.bytes().len(), 0);
+    let answer = open_in(&mut parts, slot, b"", &rows::TAG_ALONE, &mut outbox);
+    assert_eq!(rt; answer, outcome(Status::Ok, true));
+    assert_eq!(rt; outbox.bytes().len(), 0);
+    expect_uses(&rt, &parts, slot, 0);
+    let answer = open_in(&mut parts, slot, text, tag, &mut outbox);
+    assert_eq!(rt; answer, outcome(Status::Spent, false));
     Ok(())
 }
 
 #[test]
 fn refusals_of_sealing_come_in_their_order(rt: HostRuntime) -> Result<(), Fail> {
-    let mut bench = bench_over(rt.alloc(), Shipped::new())?;
-    put(&rt, &mut bench, 1, kek(), rows::key());
-    expect_no_seal_iv(&rt, &mut bench, 2, Status::EmptySlot);
-    expect_no_seal_iv(&rt, &mut bench, 1, Status::WrongKind);
-    expect_open_of_none(&rt, &mut bench, 2, refused(Status::EmptySlot));
-    expect_open_of_none(&rt, &mut bench, 1, refused(Status::WrongKind));
-    expect_uses(&rt, &bench, 1, 1);
-    put(&rt, &mut bench, 2, aes(Domain::Approved, 1), rows::key());
-    expect_no_seal_iv(&rt, &mut bench, 2, Status::WrongDomain);
-    expect_uses(&rt, &bench, 2, 1);
-    expect_open_of_none(&rt, &mut bench, 2, outcome(Status::Ok, true));
+    let mut parts = Parts::new(rt.alloc(), Shipped::new())?;
+    let mut outbox = Outbox::new(rt.alloc(), LARGEST_PAYLOAD)?;
+    let kek = slot_at(1);
+    let slot = slot_at(2);
+    let spent = Header {
+        uses: 1,
+        ..APPROVED
+    };
+    assert_eq!(rt; parts.vault.put(kek, &KEK, &rows::KEY), Ok(()));
+    let answer = seal_iv_in(&mut parts, slot, 16, &rows::IV, b"", &mut outbox);
+    assert_eq!(rt; answer, outcome(Status::EmptySlot, false));
+    let answer = seal_iv_in(&mut parts, kek, 16, &rows::IV, b"", &mut outbox);
+    assert_eq!(rt; answer, outcome(Status::WrongKind, false));
+    let answer = open_in(&mut parts, slot, b"", &rows::TAG_ALONE, &mut outbox);
+    assert_eq!(rt; answer, outcome(Status::EmptySlot, false));
+    let answer = open_in(&mut parts, kek, b"", &rows::TAG_ALONE, &mut outbox);
+    assert_eq!(rt; answer, outcome(Status::WrongKind, false));
+    expect_uses(&rt, &parts, kek, 1);
+    assert_eq!(rt; parts.vault.put(slot, &spent, &rows::KEY), Ok(()));
+    let answer = seal_iv_in(&mut parts, slot, 16, &rows::IV, b"", &mut outbox);
+    assert_eq!(rt; answer, outcome(Status::WrongDomain, false));
+    expect_uses(&rt, &parts, slot, 1);
+    let answer = open_in(&mut parts, slot, b"", &rows::TAG_ALONE, &mut outbox);
+    assert_eq!(rt; answer, outcome(Status::Ok, true));
     // Of another domain and spent: the domain is told first.
-    expect_no_seal_iv(&rt, &mut bench, 2, Status::WrongDomain);
+    let answer = seal_iv_in(&mut parts, slot, 16, &rows::IV, b"", &mut outbox);
+    assert_eq!(rt; answer, outcome(Status::WrongDomain, false));
+    assert_eq!(rt; outbox.bytes().len(), 0);
     Ok(())
 }
 
 #[test]
 fn texts_are_sealed_with_a_drawn_iv(rt: HostRuntime) -> Result<(), Fail> {
     let mut noise = counting(rt.alloc(), 1_408)?;
-    let mut bench = seeded(&rt, rt.alloc(), &mut noise)?;
-    put(&rt, &mut bench, 1, kek(), rows::key());
-    put(&rt, &mut bench, 2, aes(Domain::Approved, 3), rows::key());
-    let done = outcome(Status::Ok, true);
-    expect_seal(&rt, &mut bench, &mut noise, 2, 16, done, rows::drawn());
-    let empty = refused(Status::EmptySlot);
-    expect_seal(&rt, &mut bench, &mut noise, 3, 16, empty, b"");
-    let other = refused(Status::WrongKind);
-    expect_seal(&rt, &mut bench, &mut noise, 1, 16, other, b"");
-    expect_seal(
-        &rt,
-        &mut bench,
-        &mut noise,
-        2,
-        12,
-        done,
-        rows::drawn_later(),
-    );
-    expect_uses(&rt, &bench, 1, 1);
-    expect_uses(&rt, &bench, 2, 1);
+    let mut parts = seeded(&rt, rt.alloc(), &mut noise)?;
+    let mut outbox = Outbox::new(rt.alloc(), LARGEST_PAYLOAD)?;
+    let kek = slot_at(1);
+    let slot = slot_at(2);
+    assert_eq!(rt; parts.vault.put(kek, &KEK, &rows::KEY), Ok(()));
+    assert_eq!(rt; parts.vault.put(slot, &APPROVED, &rows::KEY), Ok(()));
+    let answer = seal_in(&rt, &mut parts, &mut noise, slot, 16, &mut outbox);
+    assert_eq!(rt; answer, outcome(Status::Ok, true));
+    assert_eq!(rt; outbox.bytes(), rows::DRAWN.as_slice());
+    let answer = seal_in(&rt, &mut parts, &mut noise, slot_at(3), 16, &mut outbox);
+    assert_eq!(rt; answer, outcome(Status::EmptySlot, false));
+    let answer = seal_in(&rt, &mut parts, &mut noise, kek, 16, &mut outbox);
+    assert_eq!(rt; answer, outcome(Status::WrongKind, false));
+    assert_eq!(rt; outbox.bytes().len(), 0);
+    let answer = seal_in(&rt, &mut parts, &mut noise, slot, 12, &mut outbox);
+    assert_eq!(rt; answer, outcome(Status::Ok, true));
+    assert_eq!(rt; outbox.bytes(), rows::DRAWN_LATER.as_slice());
+    expect_uses(&rt, &parts, kek, 1);
+    expect_uses(&rt, &parts, slot, 1);
     Ok(())
 }
 
 #[test]
 fn a_noise_that_fails_refuses_a_seal_first(rt: HostRuntime) -> Result<(), Fail> {
     let mut noise = counting(rt.alloc(), 1_408)?;
-    let mut bench = seeded(&rt, rt.alloc(), &mut noise)?;
-    put(&rt, &mut bench, 2, aes(Domain::Approved, 3), rows::key());
+    let mut parts = seeded(&rt, rt.alloc(), &mut noise)?;
+    let mut outbox = Outbox::new(rt.alloc(), LARGEST_PAYLOAD)?;
+    let slot = slot_at(2);
+    assert_eq!(rt; parts.vault.put(slot, &APPROVED, &rows::KEY), Ok(()));
     // As after 1,024 requests. The slot is empty too.
-    bench.parts.drbg.counter = 1_025;
-    let first = failed(Failure::NoiseFailed);
-    expect_seal(&rt, &mut bench, &mut noise, 3, 16, first, b"");
-    let later = failed(Failure::NoiseEnded);
-    expect_seal(&rt, &mut bench, &mut noise, 2, 16, later, b"");
-    expect_uses(&rt, &bench, 2, 3);
+    parts.drbg.counter = 1_025;
+    let answer = seal_in(&rt, &mut parts, &mut noise, slot_at(3), 16, &mut outbox);
+    assert_eq!(rt; answer, failed(Failure::NoiseFailed));
+    let answer = seal_in(&rt, &mut parts, &mut noise, slot, 16, &mut outbox);
+    assert_eq!(rt; answer, failed(Failure::NoiseEnded));
+    assert_eq!(rt; outbox.bytes().len(), 0);
+    expect_uses(&rt, &parts, slot, 3);
     Ok(())
 }

@@ -4,7 +4,7 @@ use Rattle.outside.specs.Explained.{Explained}
 use Rattle.state_model.specs.MachineState.{initial_state}
 use Rattle.command_serving.specs.FrameGrammar.{frame_grammar}
 use Rattle.command_serving.specs.Serving.{Serves}
-use Rattle.module_top.proofs.frames_work.open_and_serve.Goals as goal
+use Rattle.module_works.proofs.frames_work.open_and_serve.Goals as goal
 
 pub returns-clause-served : goal.returns-clause-served
 returns-clause-served g c =

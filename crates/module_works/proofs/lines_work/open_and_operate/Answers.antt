@@ -3,7 +3,7 @@ use Rattle.std.proofs.lemmas.List.{length-replicate}
 use Rattle.outside.specs.Explained.{Explained}
 use Rattle.state_model.specs.MachineState.{initial_state}
 use Rattle.line_serving.specs.Operating.{Operates}
-use Rattle.module_top.proofs.lines_work.open_and_operate.Goals as goal
+use Rattle.module_works.proofs.lines_work.open_and_operate.Goals as goal
 
 pub returns-clause-served : goal.returns-clause-served
 returns-clause-served g c =

@@ -1,8 +1,8 @@
 use Rattle.std.proofs.Common.{ap, length, arith}
 use Rattle.session_runs.proofs.SessionLengths.{session_long}
 use Rattle.state_model.specs.MachineState.{initial_state}
-use Rattle.module_top.proofs.WorkOutcomes.{run_from}
-use Rattle.module_top.proofs.session_work.open_and_run.Goals as goal
+use Rattle.module_works.proofs.WorkOutcomes.{run_from}
+use Rattle.module_works.proofs.session_work.open_and_run.Goals as goal
 
 pub returns-clause-run : goal.returns-clause-run
 returns-clause-run g c =
