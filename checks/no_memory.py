@@ -5,8 +5,8 @@ In Rattle memory comes from an allocator, which a call is given, or from a vecto
 enough that
 
 1. nothing that the work can call is given an allocator or a runtime: the calls are followed by their names, from where serving,
-   operating, a session, a report of vectors, a check of a transcript and a digest's line begin, through all crates below the program. Where
-   a name can mean several functions, all of them are followed;
+   operating, a backup, what restores one, a session, a report of vectors, a check of a transcript and a digest's line begin, through all
+   crates below the program. Where a name can mean several functions, all of them are followed;
 2. nothing that the work can call makes a vector, a string or a box, or calls what may grow one: each place that looks like it is listed
    below with what its receiver is;
 3. no type keeps an allocator;
@@ -30,6 +30,8 @@ PROGRAM = "module_program"
 WORK = {
     "command_serving serve": "frames",
     "line_serving operate": "an operator's lines",
+    "backup_runs back_up": "a backup",
+    "backup_runs restore_and_operate": "an operator's lines behind a restored backup",
     "session_runs run_session": "a session",
     "vector_reports report_vectors": "vectors",
     "transcript_report check_transcript": "a transcript",
@@ -54,7 +56,7 @@ GIVEN = {
     "ssp_slots Vault::new": MAKES,
     "ssp_slots blank_keys": MAKES,
     "state_model Module::open": MAKES,
-    "transcript_check Pairs::new": MAKES,
+    "transcript_pairs Pairs::new": MAKES,
     "outside MemSink::new": "is for tests and stored runs",
     "outside MemFiles::load": "is for tests and stored runs",
     "outside Files::load": LOADS,
@@ -62,19 +64,26 @@ GIVEN = {
     "outside read_within": LOADS,
     "module_top load_image": LOADS,
     "module_top load_digest": LOADS,
+    "module_top load_keys": LOADS,
+    "module_top load_backup": LOADS,
     "module_top digest_image": LOADS,
     "module_top run": BEFORE,
     "module_top perform": BEFORE,
     "module_top work_on_files": BEFORE,
-    "module_top do_work": BEFORE,
-    "module_top serve_frames": BEFORE,
-    "module_top operate_lines": BEFORE,
-    "module_top summarise": BEFORE,
+    "module_top work_with_keys": BEFORE,
+    "module_works do_work": BEFORE,
+    "module_works serve_frames": BEFORE,
+    "module_works operate_lines": BEFORE,
+    "module_works summarise": BEFORE,
+    "module_works back_up_lines": BEFORE,
+    "module_works operate_restored": BEFORE,
     "module_top check_vectors": BEFORE,
     "module_top check_pairs": BEFORE,
-    "module_top open_and_serve": RUNS,
-    "module_top open_and_operate": RUNS,
-    "module_top open_and_run": RUNS,
+    "module_works open_and_serve": RUNS,
+    "module_works open_and_operate": RUNS,
+    "module_works open_and_run": RUNS,
+    "module_works open_and_back_up": RUNS,
+    "module_works open_and_restore": RUNS,
     "module_top take_and_report": RUNS,
     "module_top take_and_check": RUNS,
     f"{PROGRAM} words_of": "reads the words of the command line",
@@ -317,8 +326,8 @@ PLANTED = [
     ("a vector that is made in serving", "command_serving/src/answering.rt", "    let mut done = 0;\n", "    let mut held = Vec::new(alloc_of(chunk));\n    let mut done = 0;\n", "makes a vector"),
     ("a vector that grows by each command", "command_serving/src/answering.rt", "    codec.clear();\n", "    codec.clear();\n    codec.held.push(1)?;\n", "may take memory"),
     ("a module that keeps its allocator", "state_model/src/module.rt", "pub struct Module<E: Engine> {\n", "pub struct Module<E: Engine> {\n    alloc: Global,\n", "keeps an allocator"),
-    ("a helper with an allocator", "module_top/src/working.rt", "// ", "fn more(alloc: Global) {}\n// ", "isn't listed"),
-    ("memory behind the work", "module_top/src/frames_work.rt", "    module.shut();\n", "    let more = Reply::new(alloc)?;\n    module.shut();\n", "behind the work"),
+    ("a helper with an allocator", "module_works/src/working.rt", "// ", "fn more(alloc: Global) {}\n// ", "isn't listed"),
+    ("memory behind the work", "module_works/src/frames_work.rt", "    module.shut();\n", "    let more = Reply::new(alloc)?;\n    module.shut();\n", "behind the work"),
     ("a constructor of another name", "module_frames/src/reply.rt", "pub fn new(alloc: Global)", "pub fn make(alloc: Global)", "is listed, and isn't given"),
     ("work of another name", "session_runs/src/running.rt", "pub fn run_session<", "pub fn run_all<", "isn't there"),
 ]
