@@ -95,6 +95,8 @@ def failing_reads():
     for input, words in SHORT + (("frames_cut", SERVE), ("transcript_cut", CHECK)):
         yield reads(input, words, 13)
         yield reads(input, words, ALL)
+    for input, words in SHORT:
+        yield reads(input, words, 1, by=11 if words == VECTORS else 1)
     # Nothing is read by these.
     for words in (SESSION, DIGEST, ("frob",)):
         yield Sweep(READ, 0, 1, 1, 1, ALL, ALL, "frames", words)
@@ -138,9 +140,16 @@ def wrong_noise():
         yield noise(fault, byte, 1, TAKEN + 2, by=67)
         yield noise(fault, byte, 1, FIRST, by=131, input="lines", words=OPERATE)
         yield noise(fault, byte, 1, PASS + 2, by=131, input="nothing", words=SESSION)
+    # So many equal samples before it that one more would be unhealthy, and that the last one is.
+    for fault in (ENDS, FAILS):
+        for zeros in (30, 31):
+            yield noise(fault, zeros, 2, FIRST, by=43, input="draws")
     # A byte that stands before, so that 30 more are enough.
     yield noise(REPEATS, 255, 257, FIRST, by=256, input="draws")
     yield noise(CROWDS, 255, 1, PASS, by=13, input="draws")
+    # Just so many in one window, and few enough behind it.
+    yield noise(CROWDS, 400 * 256 + 90, 1, FIRST, by=11, input="draws")
+    yield noise(CROWDS, 400 * 256 + 90, 440, 520, input="draws")
 
 
 def lying_engines():

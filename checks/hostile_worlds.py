@@ -46,6 +46,8 @@ CALLS = ("hash", "mac", "seal", "open", "wrap", "unwrap", "derive", "instantiate
 def noise_of(wrong, noise):
     """The events of the noise."""
     before, behind = list(noise[: wrong.turn - 1]), list(noise[wrong.turn - 1 :])
+    if wrong.fault in (ENDS, FAILS) and wrong.other:
+        before[-wrong.other :] = [0] * len(before[-wrong.other :])
     if wrong.fault == ENDS:
         return before
     if wrong.fault == FAILS:
@@ -53,7 +55,9 @@ def noise_of(wrong, noise):
     if wrong.fault == REPEATS:
         return before + [wrong.other] * len(behind[:REPETITION]) + behind[REPETITION:]
     if wrong.fault == CROWDS:
-        return before + [byte if at % REPETITION == REPETITION - 1 else wrong.other for at, byte in enumerate(behind)]
+        many, stuck = divmod(wrong.other, 256)
+        many = min(many, len(behind)) or len(behind)
+        return before + [byte if at % REPETITION == REPETITION - 1 else stuck for at, byte in enumerate(behind[:many])] + behind[many:]
     return list(noise)
 
 

@@ -11,13 +11,13 @@ pub enum Fault {
     Write,
     /// The call on files of this turn fails.
     File,
-    /// The noise ends before the event of this turn.
+    /// The noise ends before the event of this turn. As many events before that as the other number says are zeros.
     NoiseEnds,
-    /// The event of this turn is that the noise failed.
+    /// The event of this turn is that the noise failed. As many events before that as the other number says are zeros.
     NoiseFails,
     /// 31 events from this turn on are the byte of the other number.
     NoiseRepeats,
-    /// From this turn on all events but each 31st are the byte of the other number.
+    /// From this turn on all events but each 31st are the lowest byte of the other number, or so many of them as its higher bytes say.
     NoiseCrowds,
     /// The engine's call of this number lies from this turn on, by the bit of the other number.
     Call(u8),

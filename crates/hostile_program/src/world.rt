@@ -28,20 +28,35 @@ fn failing(alloc: Global, number: u64) -> Option<Vec<u64>> {
     Some(calls)
 }
 
+// The event at a place before that at which the noise goes wrong, so far before it.
+fn event_before(sweep: &Sweep, before: u64, byte: u8) -> Sample {
+    let stuck = match sweep.fault {
+        Fault::NoiseEnds | Fault::NoiseFails => before <= sweep.other,
+        _ => false,
+    };
+    Sample::Byte(if stuck { 0 } else { byte })
+}
+
+// Whether one of so many events, or of all where that is 0, is a byte that comes too often, and not too often in a row.
+fn is_crowded(many: u64, behind: u64) -> bool {
+    (many == 0 || behind < many) && behind % REPETITION != REPETITION - 1
+}
+
 // The event at a place, counted from 1, which is this byte while nothing goes wrong. None where there is no more noise.
 fn event(sweep: &Sweep, turn: u64, place: u64, byte: u8) -> Option<Sample> {
     if place < turn {
-        return Some(Sample::Byte(byte));
+        return Some(event_before(sweep, turn - place, byte));
     }
     let behind = place - turn;
     let stuck = match sweep.fault {
         Fault::NoiseEnds => return None,
         Fault::NoiseFails if behind == 0 => return Some(Sample::Failed),
         Fault::NoiseRepeats => behind < REPETITION,
-        Fault::NoiseCrowds => behind % REPETITION != REPETITION - 1,
+        Fault::NoiseCrowds => is_crowded(sweep.other / 256, behind),
         _ => false,
     };
-    Some(Sample::Byte(if stuck { sweep.other as u8 } else { byte }))
+    let stuck_byte = (sweep.other % 256) as u8;
+    Some(Sample::Byte(if stuck { stuck_byte } else { byte }))
 }
 
 // The events of the noise.
