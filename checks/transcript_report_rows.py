@@ -4,15 +4,14 @@
     python3 checks/transcript_report_rows.py > crates/transcript_report/src/tests/rows.rt
     (cd crates/transcript_report && rt fmt)
 
-One transcript is written out here; the others are those of transcript_rows.py. A row is how many bytes of the transcript there are, two places
-in it and the bytes that are set there, how the check ends, and what is written.
+A row is how many bytes of the transcript there are, two places in it and the bytes that are set there, how the check ends, and what is
+written. Checks of longer transcripts are stored in transcript_program: see transcript_runs.py.
 """
 import sys
 
 sys.dont_write_bytecode = True
 
 from machine_rules import APPROVED, INIT, NUMBER, SELF_TEST, ZERO, Command, Head, Public, number, read_command, read_head, read_transcript, step
-from transcript_rows import TRANSCRIPTS
 
 STATUS = bytes([0, 0, 0x40, 0x10, 0, 0, 0x03, 0xE8, 0, 0, 0, 0])
 WOVEN = (
@@ -89,14 +88,6 @@ def woven_rows(transcript):
         yield row(transcript, None, (place, transcript[place] ^ 1))
 
 
-def other_rows(transcript):
-    size = len(transcript)
-    yield row(transcript)
-    yield from (row(transcript, size - back) for back in (1, 24, 100))
-    for place in range(6, size, size // 15):
-        yield row(transcript, None, (place, transcript[place] ^ 2))
-
-
 def table(doc, name, shape, rows):
     print(f"/// {doc}\nstatic {name}: [{shape}; {len(rows)}] = [{', '.join(rows)}];\n")
     print(f"pub(super) fn {name.lower()}() -> &'static [{shape}] {{\n    &{name}\n}}\n")
@@ -105,12 +96,9 @@ def table(doc, name, shape, rows):
 def main():
     print("//! Written by `checks/transcript_report_rows.py`; see there.\nuse crate::Checked;\n")
     print("pub(super) type Row = (usize, usize, u8, usize, u8, Checked, &'static str);\n")
-    made = [("WOVEN", woven(), woven_rows)]
-    for name in ("DIALOGUE", "NUMBERED"):
-        made.append((name, b"".join(b"".join(pair) for pair in TRANSCRIPTS[name]()), other_rows))
-    for name, transcript, rows_of in made:
-        table(f"{len(transcript)} bytes.", name, "u8", [f"0x{byte:02x}" for byte in transcript])
-        table(f"Its rows.", f"{name}_ROWS", "Row", list(rows_of(transcript)))
+    transcript = woven()
+    table(f"{len(transcript)} bytes.", "WOVEN", "u8", [f"0x{byte:02x}" for byte in transcript])
+    table("Its rows.", "WOVEN_ROWS", "Row", list(woven_rows(transcript)))
 
 
 if __name__ == "__main__":

@@ -4,10 +4,10 @@
     python3 checks/transcript_rows.py > crates/transcript_check/src/transcript_rows.rt
     (cd crates/transcript_check && rt fmt)
 
-A transcript is each command's frame followed by its reply's. Two are the dialogues of docs/INTERFACE.md; the others are written
-here, with numbered commands, failures and the ends of periods. A row is a pair's number from 1 on, a byte of its reply's head, values from
-one to another, and the number of the first pair that breaks a rule where that byte has one of these values and had another, or 0 where
-none does. For all other values it is the pair itself.
+A line is a pair: the command's frame and its reply's head; a payload, of which no rule tells more than its length, is left out. Two transcripts
+are the dialogues of docs/INTERFACE.md; the others are written here, with numbered commands, failures and the ends of periods. A row is a pair's
+number from 1 on, bytes of its reply's head from one to another, values from one to another, and the number of the first pair that breaks a
+rule where one of these bytes has one of these values and had another, or 0 where none does. For all other values it is the pair itself.
 """
 from machine_rules import (
     AUTH_FAILED, BAD_LENGTH, CHECK_FAILED, EMPTY_SLOT, NOISE_FAULT, NUMBER, OK, OUT_OF_ORDER, SPENT, TEST_FAILED, ZERO, Command, Head, Public,
@@ -194,6 +194,18 @@ def runs(at, byte, verdicts):
             first = value
 
 
+def joined(rows):
+    """One row for bytes that stand side by side and have the same runs."""
+    joined_rows = []
+    for pair, byte, *run in sorted(rows, key=lambda row: (row[0], row[2:], row[1])):
+        last = joined_rows[-1] if joined_rows else None
+        if last and last[0] == pair and last[2] == byte - 1 and last[3:] == run:
+            last[2] = byte
+        else:
+            joined_rows.append([pair, byte, byte, *run])
+    return sorted(tuple(row) for row in joined_rows)
+
+
 TRANSCRIPTS = {
     "DIALOGUE": lambda: manual_transcript("A dialogue"),
     "KEYS": lambda: manual_transcript("A dialogue with keys"),
@@ -205,15 +217,16 @@ TRANSCRIPTS = {
 
 def main():
     print("//! Transcripts, and what is said of each with one byte changed, written by checks/transcript_rows.py; see there.\n")
-    print("/// A pair, a byte of its reply's head, the values from one to another, and the first pair that breaks a rule then.")
-    print("pub(crate) type Row = (u32, usize, u8, u8, u32);\n")
+    print("/// A pair, bytes of its reply's head from one to another, values from one to another, and the first pair that breaks a rule then.")
+    print("pub(crate) type Row = (u32, usize, usize, u8, u8, u32);\n")
     for name, made in TRANSCRIPTS.items():
         pairs = made()
         assert pairs and first_broken(Public(), [(read_command(frame), read_head(head)) for frame, head, _ in pairs], 0) == 0, name
-        woven = b"".join(b"".join(pair) for pair in pairs)
-        rows = list(rows_of(pairs))
-        print(f"/// {len(pairs)} pairs.")
-        print(f"pub(crate) static {name}: [u8; {len(woven)}] = [{', '.join(f'0x{b:02x}' for b in woven)}];\n")
+        rows = joined(rows_of(pairs))
+        print(f"pub(crate) static {name}: [&str; {len(pairs)}] = [")
+        for frame, head, _ in pairs:
+            print(f'    "{frame.hex()} {head.hex()}",')
+        print("];\n")
         print(f"pub(crate) static {name}_ROWS: [Row; {len(rows)}] = [")
         for row in rows:
             print(f"    {row},")

@@ -6,7 +6,7 @@
     python3 checks/transcript_runs.py --list     says how many pairs and runs each transcript has
 
 The transcripts are the dialogues of dialogue.py, whose replies are those of the model in machine.py; some with numbered commands, some with
-entered bytes blanked, and some whose rest is no pair. A row of the file beside a transcript is a run: how many of its bytes, the place of the
+entered bytes blanked, and some whose rest is no pair. Behind them stand those of transcript_rows.py. A row of the file beside a transcript is a run: how many of its bytes, the place of the
 byte that is another, and its value. stdout has what the run writes, and behind it a line with these three and the exit status.
 """
 import sys
@@ -17,6 +17,7 @@ from dialogue import DIALOGUES
 from dialogue_bodies import DIGEST, IMAGE, NOISE
 from machine import Machine, frame
 from machine_rules import COMMAND, NAMES, NUMBER, OK, OUT_OF_ORDER, REPLY, BadFrame, Public, frame_end, pair_at, read_command, read_head
+from transcript_rows import TRANSCRIPTS
 from transcripts import BAD_FRAME, LAWFUL, NOT_LAWFUL, TRUNCATED, after_pair, check
 
 CRATE = "transcript_program"
@@ -175,6 +176,13 @@ def later_rows(transcript):
     yield from ((len(transcript), place, transcript[place] ^ 1) for place in range(len(transcript)))
 
 
+def spread_rows(transcript):
+    """A transcript cut near its end, and with bytes all over it changed."""
+    size = len(transcript)
+    yield from ((size - back, size - back, 0) for back in (1, 24, 100))
+    yield from ((size, place, transcript[place] ^ 2) for place in range(6, size, size // 15))
+
+
 def runs():
     """Each transcript by its name, and its rows."""
     seen = set()
@@ -194,6 +202,11 @@ def runs():
             blank = blanked(transcript)
             assert blank != transcript
             yield f"{name}_blanked", blank, rows_of(blank, seen)
+    for name, of in TRANSCRIPTS.items():
+        transcript = b"".join(b"".join(pair) for pair in of())
+        # The first four rows have each another number of bytes that come at a time.
+        whole = [(len(transcript), len(transcript), 0)] * 3
+        yield f"rules_{name.lower()}", transcript, [*whole, *rows_of(transcript, seen), *spread_rows(transcript)]
 
 
 def states_of(transcript):

@@ -26,7 +26,7 @@ run_one calls s events command = refl
 abbrev pub after_replies : {V : Type 0} → List ReplyFrame → Ran V → Ran V
 after_replies replies ran = record ran { replies = replies ++ ran.replies }
 
-run_both : {V : Type 0} (calls : Calls V) (s : MachineState V) (events : List Sample) (first more : List CommandFrame)
+pub run_both : {V : Type 0} (calls : Calls V) (s : MachineState V) (events : List Sample) (first more : List CommandFrame)
     → run_commands calls s events (first ++ more) ≡ (let ran = run_commands calls s events first in after_replies ran.replies (run_commands calls ran.machine ran.left more))
 unfolding run_commands
 run_both calls s events [] more = refl

@@ -118,7 +118,8 @@ variant_length calls s events bytes other pairs remainder variant =
 -- what serving a stream leaves for the other
 pub record OtherServed {V : Type 0} (calls : Calls V) (s : MachineState V) (events : List Sample) (other : List ℕ) (pairs : List CommandPair) (ending : Ended) (replies : List ReplyFrame) : Type 0 where
   pub others : List ReplyFrame
-  pub serves : RunsStream frame_grammar calls s events other ending (encoded_replies frame_grammar others)
+  pub machine : MachineState V
+  pub serves : RunsStream frame_grammar calls s events other machine ending (encoded_replies frame_grammar others)
   pub agree : RunsAgree calls untainted s s events pairs replies others
   pub one_command : (k : ℕ) → AllCommitInto calls k untainted s events pairs → TreeHoldsTaint calls k untainted s s events pairs
 
@@ -134,8 +135,9 @@ short_alike {V} calls plain s t events left bytes other remainder rest pairs rep
     let start : remainder_start frame_grammar bytes remainder ≡ remainder_start frame_grammar other remainder = ap (λ n. n - length remainder) long in
     record {
       others = alike.others;
+      machine = alike.machine;
       serves = record {
-        short = λ _. (alike.machine, alike.others, left, remainder, alike.runs, refl, ends ∙ ap (λ n. ending_of frame_grammar n remainder) start);
+        short = λ _. (alike.others, left, remainder, alike.runs, refl, ends ∙ ap (λ n. ending_of frame_grammar n remainder) start);
         too_long = λ over. absurd (omega (arith, below, long, over));
       };
       agree = alike.agree;
@@ -155,9 +157,10 @@ long_alike {V} calls plain s t events left bytes other remainder rest pairs repl
     let start : remainder_start frame_grammar (take STREAM_MAX bytes) remainder ≡ remainder_start frame_grammar (take STREAM_MAX other) remainder = ap (λ n. n - length remainder) long in
     record {
       others = alike.others;
+      machine = alike.machine;
       serves = record {
         short = λ below. absurd (omega (arith, below, over));
-        too_long = λ _. (alike.machine, alike.others, left, remainder, alike.runs, refl, ends ∙ ap (λ n. fault_or frame_grammar n remainder ended.Limit) start);
+        too_long = λ _. (alike.others, left, remainder, alike.runs, refl, ends ∙ ap (λ n. fault_or frame_grammar n remainder ended.Limit) start);
       };
       agree = alike.agree;
       one_command = alike.one_command;
@@ -170,15 +173,15 @@ pub record IsServedBy {V : Type 0} (calls : Calls V) (s : MachineState V) (event
   pub others : (other : List ℕ) (pairs : List CommandPair) (rest : List ℕ) → AreVariantStreams frame_grammar calls s events (take STREAM_MAX bytes) (take STREAM_MAX other) pairs rest
       → OtherServed calls s events other pairs ending replies
 
-pub stream_alike : {V : Type 0} (calls : Calls V) → IsStandard calls → (s : MachineState V) (events : List Sample) (bytes : List ℕ) (ending : Ended) (out : List ℕ) → length s.shared.ancestry ≡ 16
-    → RunsStream frame_grammar calls s events bytes ending out → IsServedBy calls s events bytes ending out
-stream_alike {V} calls plain s events bytes ending out sixteen serves = elim (cases_lt (length bytes) STREAM_MAX) [
+pub stream_alike : {V : Type 0} (calls : Calls V) → IsStandard calls → (s : MachineState V) (events : List Sample) (bytes : List ℕ) (t : MachineState V) (ending : Ended) (out : List ℕ) → length s.shared.ancestry ≡ 16
+    → RunsStream frame_grammar calls s events bytes t ending out → IsServedBy calls s events bytes ending out
+stream_alike {V} calls plain s events bytes t ending out sixteen serves = elim (cases_lt (length bytes) STREAM_MAX) [
   | inl below ↦
-      let (t, replies, left, remainder, runs, written, ends) = serves.short below in
-      record { replies = replies; written = written; others = λ other pairs rest variant. short_of t replies left remainder runs ends below other pairs rest variant }
+      let (replies, left, remainder, runs, written, ends) = serves.short below in
+      record { replies = replies; written = written; others = λ other pairs rest variant. short_of replies left remainder runs ends below other pairs rest variant }
   | inr over ↦
-      let (t, replies, left, remainder, runs, written, ends) = serves.too_long over in
-      record { replies = replies; written = written; others = λ other pairs rest variant. long_of t replies left remainder runs ends over other pairs rest variant }
+      let (replies, left, remainder, runs, written, ends) = serves.too_long over in
+      record { replies = replies; written = written; others = λ other pairs rest variant. long_of replies left remainder runs ends over other pairs rest variant }
 ]
   where
     -- the parts that are read are of one length
@@ -187,10 +190,10 @@ stream_alike {V} calls plain s events bytes ending out sixteen serves = elim (ca
     parts other pairs rest variant =
         sym (length-take STREAM_MAX bytes) ∙ variant_length calls s events (take STREAM_MAX bytes) (take STREAM_MAX other) pairs rest variant ∙ length-take STREAM_MAX other
 
-    short_of : (t : MachineState V) (replies : List ReplyFrame) (left : List Sample) (remainder : List ℕ) → Runs frame_grammar calls s events bytes t replies left remainder
+    short_of : (replies : List ReplyFrame) (left : List Sample) (remainder : List ℕ) → Runs frame_grammar calls s events bytes t replies left remainder
         → ending ≡ ending_of frame_grammar (remainder_start frame_grammar bytes remainder) remainder → length bytes < STREAM_MAX → (other : List ℕ) (pairs : List CommandPair) (rest : List ℕ)
         → AreVariantStreams frame_grammar calls s events (take STREAM_MAX bytes) (take STREAM_MAX other) pairs rest → OtherServed calls s events other pairs ending replies
-    short_of t replies left remainder runs ends below other pairs rest variant =
+    short_of replies left remainder runs ends below other pairs rest variant =
         let same = parts other pairs rest variant in
         let long : length bytes ≡ length other = omega (arith, same, below) in
         let whole : take STREAM_MAX bytes ≡ bytes = take_all STREAM_MAX bytes (omega (arith, below)) in
@@ -199,10 +202,10 @@ stream_alike {V} calls plain s events bytes ending out sixteen serves = elim (ca
         let Both : List ℕ → Type 0 = λ xs. AreVariantStreams frame_grammar calls s events bytes xs pairs rest in
         short_alike calls plain s t events left bytes other remainder rest pairs replies ending sixteen below runs ends long (subst Both other_whole (subst One whole variant))
 
-    long_of : (t : MachineState V) (replies : List ReplyFrame) (left : List Sample) (remainder : List ℕ) → Runs frame_grammar calls s events (take STREAM_MAX bytes) t replies left remainder
+    long_of : (replies : List ReplyFrame) (left : List Sample) (remainder : List ℕ) → Runs frame_grammar calls s events (take STREAM_MAX bytes) t replies left remainder
         → ending ≡ fault_or frame_grammar (remainder_start frame_grammar (take STREAM_MAX bytes) remainder) remainder ended.Limit → STREAM_MAX ≤ length bytes → (other : List ℕ) (pairs : List CommandPair)
         (rest : List ℕ) → AreVariantStreams frame_grammar calls s events (take STREAM_MAX bytes) (take STREAM_MAX other) pairs rest → OtherServed calls s events other pairs ending replies
-    long_of t replies left remainder runs ends over other pairs rest variant =
+    long_of replies left remainder runs ends over other pairs rest variant =
         let same = parts other pairs rest variant in
         long_alike calls plain s t events left bytes other remainder rest pairs replies ending sixteen (omega (arith, same, over)) runs ends
         (variant_length calls s events (take STREAM_MAX bytes) (take STREAM_MAX other) pairs rest variant) variant

@@ -4,10 +4,12 @@ use Rattle.std.specs.Option.{option_map, option_map_or}
 use Rattle.std.proofs.lemmas.List.{append_assoc, take_at, drop_at}
 use Rattle.std.proofs.Math.Seq.{take-add}
 use Rattle.engine_core.specs.Calls.{Calls}
+use Rattle.outside.specs.Contents.{Appends}
 use Rattle.outside.specs.declared.traits.Sample.{Sample}
 use Rattle.module_frames.specs.ReplyFrames.{ReplyFrame}
 use Rattle.state_model.specs.ModuleView.{ModuleView}
 use Rattle.state_model.specs.MachineState.{MachineState}
+use Rattle.state_model.specs.Represents.{Represents}
 use Rattle.command_serving.specs.declared.serving.Ended.{Ended}
 use Rattle.command_serving.specs.declared.serving.Ended.TheVariants as ended
 use Rattle.command_serving.specs.Grammars.{Grammar, fault_number, IsLawful}
@@ -63,18 +65,24 @@ take_past n first more h =
 start_stays : (grammar : Grammar) → IsLawful grammar → (bytes remainder more : List ℕ) → remainder_start grammar (bytes ++ more) (remainder ++ more) ≡ remainder_start grammar bytes remainder
 start_stays grammar lawful bytes remainder more = omega (arith, lawful.advance_both bytes more, lawful.advance_both remainder more)
 
+-- where a stream was served, the run over it, which ends in the machine that the module is then, and what is written; where what was gained is told,
+-- it is written behind that
+abbrev pub LeavesRun : {V : Type 0} → Grammar → Calls V → MachineState V → List Sample → (bytes : List ℕ) → Ended → ModuleView V → (before after : Option (List ℕ)) → Type 0
+LeavesRun {V} grammar calls s events bytes ending m before after =
+    (out : List ℕ) × (t : MachineState V) × RunsStream grammar calls s events bytes t ending out × Represents m t × Appends before out after
+
 -- a stream that was read to its end
-output_at_end : {V : Type 0} (grammar : Grammar) (calls : Calls V) (s : MachineState V) (events : List Sample) (ending : Ended) (m : ModuleView V) (bytes before taken read remainder : List ℕ) (left : List Sample) (after : Streams)
-    → Answered grammar calls s events read remainder m left (record { left = Some bytes; gained = Some before }) after
+output_at_end : {V : Type 0} (grammar : Grammar) (calls : Calls V) (s : MachineState V) (events : List Sample) (ending : Ended) (m : ModuleView V) (bytes : List ℕ) (gained : Option (List ℕ)) (taken read remainder : List ℕ) (left : List Sample) (after : Streams)
+    → Answered grammar calls s events read remainder m left (record { left = Some bytes; gained = gained }) after
     → ending_of grammar (remainder_start grammar read remainder) remainder ≡ ending → IsReadToEnd grammar taken read (Some bytes)
-    → (out : List ℕ) × RunsStream grammar calls s events bytes ending out × (after.gained ≡ Some (before ++ out))
-output_at_end {V} grammar calls s events ending m bytes before taken read remainder left after answered e to_end =
+    → LeavesRun grammar calls s events bytes ending m gained after.gained
+output_at_end {V} grammar calls s events ending m bytes gained taken read remainder left after answered e to_end =
     let Over : List ℕ → Type 0 = λ xs. Runs grammar calls s events xs answered.machine answered.replies left remainder in
     let whole : read ≡ grammar.at_end bytes = to_end.read_at_end ∙ ap grammar.at_end (sym to_end.all) in (
       encoded_replies grammar answered.replies,
+      answered.machine,
       record {
         short = λ _. (
-          answered.machine,
           answered.replies,
           left,
           remainder,
@@ -84,15 +92,16 @@ output_at_end {V} grammar calls s events ending m bytes before taken read remain
         );
         too_long = λ long. absurd (omega (arith, ap length to_end.all, to_end.below_limit, long));
       },
+      answered.represents,
       answered.gained,
     )
 
 -- a stream that shows a fault in the bytes taken
-output_at_fault : {V : Type 0} (grammar : Grammar) (calls : Calls V) → IsLawful grammar → (s : MachineState V) (events : List Sample) (number : ℕ) (m : ModuleView V) (bytes before taken remainder more : List ℕ) (left : List Sample) (after : Streams)
-    → Answered grammar calls s events taken remainder m left (record { left = Some bytes; gained = Some before }) after
+output_at_fault : {V : Type 0} (grammar : Grammar) (calls : Calls V) → IsLawful grammar → (s : MachineState V) (events : List Sample) (number : ℕ) (m : ModuleView V) (bytes : List ℕ) (gained : Option (List ℕ)) (taken remainder more : List ℕ) (left : List Sample) (after : Streams)
+    → Answered grammar calls s events taken remainder m left (record { left = Some bytes; gained = gained }) after
     → ending_of grammar (remainder_start grammar taken remainder) remainder ≡ ended.BadFrame number → length taken ≤ STREAM_MAX → bytes ≡ taken ++ more
-    → (out : List ℕ) × RunsStream grammar calls s events bytes (ended.BadFrame number) out × (after.gained ≡ Some (before ++ out))
-output_at_fault {V} grammar calls lawful s events number m bytes before taken remainder more left after answered ends within all =
+    → LeavesRun grammar calls s events bytes (ended.BadFrame number) m gained after.gained
+output_at_fault {V} grammar calls lawful s events number m bytes gained taken remainder more left after answered ends within all =
     let start = remainder_start grammar taken remainder in
     let fault : fault_number grammar start remainder ≡ Some number = ending_fault grammar start remainder number ends in
     let rest = more ++ lawful.mark in
@@ -110,9 +119,9 @@ output_at_fault {V} grammar calls lawful s events number m bytes before taken re
     ∙ ap (λ n. fault_or grammar n (remainder ++ cut) ended.Limit) (start_stays grammar lawful taken remainder cut)
     ∙ broken_other grammar start (remainder ++ cut) number ended.Limit (fault_number_stays grammar lawful start remainder cut number fault) in (
       encoded_replies grammar answered.replies,
+      answered.machine,
       record {
         short = λ _. (
-          answered.machine,
           answered.replies,
           left,
           remainder ++ rest,
@@ -121,7 +130,6 @@ output_at_fault {V} grammar calls lawful s events number m bytes before taken re
           sym whole_ends,
         );
         too_long = λ _. (
-          answered.machine,
           answered.replies,
           left,
           remainder ++ cut,
@@ -130,21 +138,22 @@ output_at_fault {V} grammar calls lawful s events number m bytes before taken re
           sym cut_ends,
         );
       },
+      answered.represents,
       answered.gained,
     )
 
 -- a stream of which as many bytes were taken as may be
-output_at_limit : {V : Type 0} (grammar : Grammar) (calls : Calls V) (s : MachineState V) (events : List Sample) (m : ModuleView V) (bytes before taken remainder more : List ℕ) (left : List Sample) (after : Streams)
-    → Answered grammar calls s events taken remainder m left (record { left = Some bytes; gained = Some before }) after
+output_at_limit : {V : Type 0} (grammar : Grammar) (calls : Calls V) (s : MachineState V) (events : List Sample) (m : ModuleView V) (bytes : List ℕ) (gained : Option (List ℕ)) (taken remainder more : List ℕ) (left : List Sample) (after : Streams)
+    → Answered grammar calls s events taken remainder m left (record { left = Some bytes; gained = gained }) after
     → length taken ≡ STREAM_MAX → grammar.first_fault remainder ≡ None → bytes ≡ taken ++ more
-    → (out : List ℕ) × RunsStream grammar calls s events bytes ended.Limit out × (after.gained ≡ Some (before ++ out))
-output_at_limit {V} grammar calls s events m bytes before taken remainder more left after answered long no_fault all =
+    → LeavesRun grammar calls s events bytes ended.Limit m gained after.gained
+output_at_limit {V} grammar calls s events m bytes gained taken remainder more left after answered long no_fault all =
     let Over : List ℕ → Type 0 = λ xs. Runs grammar calls s events xs answered.machine answered.replies left remainder in (
       encoded_replies grammar answered.replies,
+      answered.machine,
       record {
         short = λ less. absurd (omega (arith, ap length all, length-append taken more, long, less));
         too_long = λ _. (
-          answered.machine,
           answered.replies,
           left,
           remainder,
@@ -153,26 +162,27 @@ output_at_limit {V} grammar calls s events m bytes before taken remainder more l
           rw no_fault refl,
         );
       },
+      answered.represents,
       answered.gained,
     )
 
 -- where no call failed, what serving leaves is the run over the stream
-pub stream_of : {V : Type 0} (grammar : Grammar) (calls : Calls V) → IsLawful grammar → (s : MachineState V) (events : List Sample) (ending : Ended) (chunk : ℕ) (m : ModuleView V) (bytes before : List ℕ) (left : List Sample) (after : Streams)
-    → Serves grammar calls ending chunk s m (record { left = Some bytes; gained = Some before }) after events left → ending ≢ ended.ReadFault → ending ≢ ended.WriteFault
-    → (out : List ℕ) × RunsStream grammar calls s events bytes ending out × (after.gained ≡ Some (before ++ out))
-stream_of grammar calls lawful s events ended.End chunk m bytes before left after (taken, read, remainder, consumes, answered, ends) no_read no_write =
-    output_at_end grammar calls s events ended.End m bytes before taken read remainder left after answered ends.0 ends.1
-stream_of grammar calls lawful s events ended.Truncated chunk m bytes before left after (taken, read, remainder, consumes, answered, ends) no_read no_write =
-    output_at_end grammar calls s events ended.Truncated m bytes before taken read remainder left after answered ends.0 ends.1
-stream_of {V} grammar calls lawful s events (ended.BadFrame number) chunk m bytes before left after (taken, read, remainder, consumes, answered, ends) no_read no_write =
-    let AtFault : List ℕ → Type 0 = λ xs. Answered grammar calls s events xs remainder m left (record { left = Some bytes; gained = Some before }) after in
+pub stream_of : {V : Type 0} (grammar : Grammar) (calls : Calls V) → IsLawful grammar → (s : MachineState V) (events : List Sample) (ending : Ended) (chunk : ℕ) (m : ModuleView V) (bytes : List ℕ) (gained : Option (List ℕ)) (left : List Sample) (after : Streams)
+    → Serves grammar calls ending chunk s m (record { left = Some bytes; gained = gained }) after events left → ending ≢ ended.ReadFault → ending ≢ ended.WriteFault
+    → LeavesRun grammar calls s events bytes ending m gained after.gained
+stream_of grammar calls lawful s events ended.End chunk m bytes gained left after (taken, read, remainder, consumes, answered, ends) no_read no_write =
+    output_at_end grammar calls s events ended.End m bytes gained taken read remainder left after answered ends.0 ends.1
+stream_of grammar calls lawful s events ended.Truncated chunk m bytes gained left after (taken, read, remainder, consumes, answered, ends) no_read no_write =
+    output_at_end grammar calls s events ended.Truncated m bytes gained taken read remainder left after answered ends.0 ends.1
+stream_of {V} grammar calls lawful s events (ended.BadFrame number) chunk m bytes gained left after (taken, read, remainder, consumes, answered, ends) no_read no_write =
+    let AtFault : List ℕ → Type 0 = λ xs. Answered grammar calls s events xs remainder m left (record { left = Some bytes; gained = gained }) after in
     elim ends.2 [
-      | inl same ↦ output_at_fault grammar calls lawful s events number m bytes before taken remainder consumes.0 left after (subst AtFault same answered)
+      | inl same ↦ output_at_fault grammar calls lawful s events number m bytes gained taken remainder consumes.0 left after (subst AtFault same answered)
           (ap (λ xs. ending_of grammar (remainder_start grammar xs remainder) remainder) (sym same) ∙ ends.0) ends.1 consumes.1
-      | inr to_end ↦ output_at_end grammar calls s events (ended.BadFrame number) m bytes before taken read remainder left after answered ends.0 to_end
+      | inr to_end ↦ output_at_end grammar calls s events (ended.BadFrame number) m bytes gained taken read remainder left after answered ends.0 to_end
     ]
-stream_of {V} grammar calls lawful s events ended.Limit chunk m bytes before left after (taken, read, remainder, consumes, answered, ends) no_read no_write =
-    let AtLimit : List ℕ → Type 0 = λ xs. Answered grammar calls s events xs remainder m left (record { left = Some bytes; gained = Some before }) after in
-    output_at_limit grammar calls s events m bytes before taken remainder consumes.0 left after (subst AtLimit ends.1 answered) ends.0 ends.2 consumes.1
-stream_of grammar calls lawful s events ended.ReadFault chunk m bytes before left after served no_read no_write = absurd (no_read refl)
-stream_of grammar calls lawful s events ended.WriteFault chunk m bytes before left after served no_read no_write = absurd (no_write refl)
+stream_of {V} grammar calls lawful s events ended.Limit chunk m bytes gained left after (taken, read, remainder, consumes, answered, ends) no_read no_write =
+    let AtLimit : List ℕ → Type 0 = λ xs. Answered grammar calls s events xs remainder m left (record { left = Some bytes; gained = gained }) after in
+    output_at_limit grammar calls s events m bytes gained taken remainder consumes.0 left after (subst AtLimit ends.1 answered) ends.0 ends.2 consumes.1
+stream_of grammar calls lawful s events ended.ReadFault chunk m bytes gained left after served no_read no_write = absurd (no_read refl)
+stream_of grammar calls lawful s events ended.WriteFault chunk m bytes gained left after served no_read no_write = absurd (no_write refl)

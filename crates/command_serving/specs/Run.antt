@@ -37,12 +37,12 @@ abbrev pub ending_of : Grammar → ℕ → List ℕ → Ended
 ending_of grammar start [] = ended.End
 ending_of grammar start (byte ∷ remainder) = fault_or grammar start (byte ∷ remainder) ended.Truncated
 
--- The run over a stream from s with these events of noise, its ending and what is written: of fewer than 2^40 bytes as they are read once the
--- source has ended, of more the first 2^40.
-pub record RunsStream {V : Type 0} (grammar : Grammar) (calls : Calls V) (s : MachineState V) (events : List Sample) (bytes : List ℕ) (ending : Ended) (out : List ℕ) : Type 0 where
+-- The run over a stream from s to t with these events of noise, its ending and what is written: of fewer than 2^40 bytes as they are read once
+-- the source has ended, of more the first 2^40.
+pub record RunsStream {V : Type 0} (grammar : Grammar) (calls : Calls V) (s : MachineState V) (events : List Sample) (bytes : List ℕ) (t : MachineState V) (ending : Ended) (out : List ℕ) : Type 0 where
   pub short : length bytes < STREAM_MAX →
-      (t : MachineState V) × (replies : List ReplyFrame) × (left : List Sample) × (remainder : List ℕ) × Runs grammar calls s events (grammar.at_end bytes) t replies left remainder
+      (replies : List ReplyFrame) × (left : List Sample) × (remainder : List ℕ) × Runs grammar calls s events (grammar.at_end bytes) t replies left remainder
       × (out ≡ encoded_replies grammar replies) × (ending ≡ ending_of grammar (remainder_start grammar (grammar.at_end bytes) remainder) remainder)
   pub too_long : STREAM_MAX ≤ length bytes →
-      (t : MachineState V) × (replies : List ReplyFrame) × (left : List Sample) × (remainder : List ℕ) × Runs grammar calls s events (take STREAM_MAX bytes) t replies left remainder
+      (replies : List ReplyFrame) × (left : List Sample) × (remainder : List ℕ) × Runs grammar calls s events (take STREAM_MAX bytes) t replies left remainder
       × (out ≡ encoded_replies grammar replies) × (ending ≡ fault_or grammar (remainder_start grammar (take STREAM_MAX bytes) remainder) remainder ended.Limit)

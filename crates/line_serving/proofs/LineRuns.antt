@@ -7,10 +7,9 @@ use Rattle.state_model.specs.ModuleView.{ModuleView}
 use Rattle.state_model.specs.MachineState.{MachineState}
 use Rattle.command_serving.specs.declared.serving.Ended.{Ended}
 use Rattle.command_serving.specs.declared.serving.Ended.TheVariants as ended
-use Rattle.command_serving.specs.Run.{RunsStream}
 use Rattle.stream_calls.specs.Streams.{Streams}
 use Rattle.command_serving.specs.Serving.{Serves}
-use Rattle.command_serving.proofs.StreamRuns.{stream_of}
+use Rattle.command_serving.proofs.StreamRuns.{LeavesRun, stream_of}
 use Rattle.command_serving.proofs.OneRun.{one_stream}
 use Rattle.line_serving.specs.declared.operating.Operated.{Operated}
 use Rattle.line_serving.specs.declared.operating.Operated.TheVariants as operated
@@ -25,23 +24,23 @@ pub lines_of : {V : Type 0} (calls : Calls V) (s : MachineState V) (events : Lis
 lines_of {V} calls s events answer chunk m bytes before left after operates no_read no_write = by_answer answer operates no_read no_write
   where
     of : (ending : Ended) (now : Streams) → Serves line_grammar calls ending chunk s m (record { left = Some bytes; gained = Some before }) now events left → ending ≢ ended.ReadFault
-        → ending ≢ ended.WriteFault → (out : List ℕ) × RunsStream line_grammar calls s events bytes ending out × (now.gained ≡ Some (before ++ out))
-    of ending now serves = stream_of line_grammar calls line_grammar_is_lawful s events ending chunk m bytes before left now serves
+        → ending ≢ ended.WriteFault → LeavesRun line_grammar calls s events bytes ending m (Some before) now.gained
+    of ending now serves = stream_of line_grammar calls line_grammar_is_lawful s events ending chunk m bytes (Some before) left now serves
 
     -- nothing stands behind the replies
-    quiet : (a : Operated) → last_text a ≡ [] → (out : List ℕ) × RunsStream line_grammar calls s events bytes (ending_for a) out × (after.gained ≡ Some (before ++ out))
+    quiet : (a : Operated) → last_text a ≡ [] → LeavesRun line_grammar calls s events bytes (ending_for a) m (Some before) after.gained
         → (out : List ℕ) × RunsLines calls s events bytes a out × (after.gained ≡ Some (before ++ out))
-    quiet a nothing (out, runs, gained) =
-        (out, record { replied = out; runs = runs; whole = sym (append-nil out) ∙ ap (λ xs. out ++ xs) (sym nothing) }, gained)
+    quiet a nothing (out, t, runs, is, gained) =
+        (out, record { machine = t; replied = out; runs = runs; whole = sym (append-nil out) ∙ ap (λ xs. out ++ xs) (sym nothing) }, gained)
 
     -- the text stands behind them
     told : (number : ℕ) (replied : Option (List ℕ)) → Appends replied (bad_line_text number) after.gained
-        → (out : List ℕ) × RunsStream line_grammar calls s events bytes (ended.BadFrame number) out × (replied ≡ Some (before ++ out))
+        → LeavesRun line_grammar calls s events bytes (ended.BadFrame number) m (Some before) replied
         → (out : List ℕ) × RunsLines calls s events bytes (operated.BadLine number) out × (after.gained ≡ Some (before ++ out))
-    told number replied appends (out, runs, gained) =
+    told number replied appends (out, t, runs, is, gained) =
         let Behind : Option (List ℕ) → Type 0 = λ known. Appends known (bad_line_text number) after.gained in
         let text : after.gained ≡ Some ((before ++ out) ++ bad_line_text number) = subst Behind gained appends in
-        (out ++ bad_line_text number, record { replied = out; runs = runs; whole = refl }, text ∙ ap (λ (xs : List ℕ). Some xs) (append_assoc before out (bad_line_text number)))
+        (out ++ bad_line_text number, record { machine = t; replied = out; runs = runs; whole = refl }, text ∙ ap (λ (xs : List ℕ). Some xs) (append_assoc before out (bad_line_text number)))
 
     by_answer : (a : Operated) → Operates calls a chunk s m (record { left = Some bytes; gained = Some before }) after events left → a ≢ operated.ReadFault → a ≢ operated.WriteFault
         → (out : List ℕ) × RunsLines calls s events bytes a out × (after.gained ≡ Some (before ++ out))
@@ -72,6 +71,6 @@ answer_back operated.Limit = refl
 pub one_lines : {V : Type 0} (calls : Calls V) (s : MachineState V) (events : List Sample) (bytes : List ℕ) (answer answer' : Operated) (out out' : List ℕ) → RunsLines calls s events bytes answer out
     → RunsLines calls s events bytes answer' out' → (answer ≡ answer') × (out ≡ out')
 one_lines calls s events bytes answer answer' out out' one other =
-    let same = one_stream line_grammar calls line_grammar_is_lawful s events bytes (ending_for answer) (ending_for answer') one.replied other.replied one.runs other.runs in
+    let same = one_stream line_grammar calls line_grammar_is_lawful s events bytes one.machine other.machine (ending_for answer) (ending_for answer') one.replied other.replied one.runs other.runs in
     let answers : answer ≡ answer' = sym (answer_back answer) ∙ ap answer_to same.0 ∙ answer_back answer' in
     (answers, one.whole ∙ ap (λ xs. xs ++ last_text answer) same.1 ∙ ap (λ a. other.replied ++ last_text a) answers ∙ sym other.whole)

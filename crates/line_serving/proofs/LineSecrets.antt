@@ -71,10 +71,10 @@ other_alike {V} calls plain s t events left bytes remainder answer replies sixte
     record {
       others = alike.others;
       runs = record {
+        machine = alike.machine;
         replied = encoded_replies line_grammar alike.others;
         runs = record {
           short = λ _. (
-            alike.machine,
             alike.others,
             left,
             remainder',
@@ -95,14 +95,14 @@ pub lines_alike : {V : Type 0} (calls : Calls V) → IsStandard calls → (s : M
     → RunsLines calls s events bytes answer out → VariantLinesRunAlike calls s events bytes answer out
 lines_alike calls plain s events bytes answer out sixteen runs = elim (cases_lt (length bytes) STREAM_MAX) [
   | inl below ↦
-      let (t, replies, left, remainder, ran, written, ends) = runs.runs.short below in
+      let (replies, left, remainder, ran, written, ends) = runs.runs.short below in
       record {
         replies = replies;
         written = runs.whole ∙ ap (λ xs. xs ++ last_text answer) written;
-        alike = other_alike calls plain s t events left bytes remainder answer replies sixteen ran ends;
+        alike = other_alike calls plain s runs.machine events left bytes remainder answer replies sixteen ran ends;
       }
   | inr over ↦
-      let (t, replies, left, remainder, ran, written, ends) = runs.runs.too_long over in
+      let (replies, left, remainder, ran, written, ends) = runs.runs.too_long over in
       record {
         replies = replies;
         written = runs.whole ∙ ap (λ xs. xs ++ last_text answer) written;

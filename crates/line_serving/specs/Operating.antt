@@ -73,6 +73,7 @@ last_text operated.Limit = []
 -- the run over the lines of a source from s with these events of noise, what is answered and what is written: the replies' lines, and at a
 -- bad line the text that tells its number
 pub record RunsLines {V : Type 0} (calls : Calls V) (s : MachineState V) (events : List Sample) (bytes : List ℕ) (answer : Operated) (out : List ℕ) : Type 0 where
+  pub machine : MachineState V
   pub replied : List ℕ
-  pub runs : RunsStream line_grammar calls s events bytes (ending_for answer) replied
+  pub runs : RunsStream line_grammar calls s events bytes machine (ending_for answer) replied
   pub whole : out ≡ replied ++ last_text answer

@@ -10,6 +10,7 @@ mod taking;
 #[cfg(test)]
 mod tests;
 
+pub use bad_line::write_bad_line;
 pub use laws::{faults_are_bad_lines, lines_are_never_truncated};
 pub use line_codec::LineCodec;
 pub use line_input::LARGEST_LINE;

@@ -10,10 +10,11 @@ use Rattle.state_model.specs.MachineState.{MachineState, IsWellFormed, initial_s
 use Rattle.state_model.specs.Runs.{run_commands}
 use Rattle.state_model.specs.Step.{step, reply_to}
 use Rattle.transcript_check.specs.Laws.{AreBlanked, BlankedStaysLawful, IsBlanked, YesIsLawful}
-use Rattle.transcript_check.specs.ReplyStreams.{IsReply}
 use Rattle.transcript_check.specs.Transcripts.{IsLawful, IsWalk}
+use Rattle.transcript_pairs.specs.PairStreams.{pairs_of}
+use Rattle.transcript_pairs.specs.ReplyStreams.{IsReply}
 use Rattle.machine_transcripts.specs.Laws.{AreBlankedCommands, BlankedTranscriptsStayLawful, LeaveLawful, RunsLeaveLawfulTranscripts, StreamsLeaveLawfulTranscripts}
-use Rattle.machine_transcripts.specs.Weaving.{IsSent, recorded_of, pairs_of}
+use Rattle.machine_transcripts.specs.Weaving.{IsSent, recorded_of}
 use Rattle.machine_transcripts.proofs.Weaving.{AreAnswered, body_bytes, parsed_sent, service_fits, woven_parses}
 use Rattle.machine_transcripts.proofs.Widths.{Fits, code_fits, step_fits}
 

@@ -7,8 +7,8 @@ use Rattle.bits_core.proofs.Bytes.{IsBytes-take, IsBytes-drop}
 use Rattle.module_frames.specs.CommandFrames.{CommandFrame, IsSendable, command_header, command_encoding}
 use Rattle.module_frames.specs.ReplyFrames.{ReplyFrame, head_of, reply_encoding}
 use Rattle.module_frames.specs.Streams.{ParsesInto}
-use Rattle.transcript_check.specs.PairStreams.{BeginsNoPair, IsRecorded, ParsesIntoPairs, Recorded, pair_encoding}
-use Rattle.transcript_check.specs.ReplyStreams.{IsReply}
+use Rattle.transcript_pairs.specs.PairStreams.{BeginsNoPair, IsRecorded, ParsesIntoPairs, Recorded, pair_encoding}
+use Rattle.transcript_pairs.specs.ReplyStreams.{IsReply}
 use Rattle.machine_transcripts.specs.Weaving.{IsSent, woven, recorded_of}
 
 front_bytes : (xs ys : List ℕ) → IsBytes (xs ++ ys) → IsBytes xs

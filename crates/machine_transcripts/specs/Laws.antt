@@ -12,9 +12,9 @@ use Rattle.state_model.specs.MachineState.{initial_state}
 use Rattle.state_model.specs.Runs.{run_commands}
 use Rattle.transcript_check.specs.Checking.{IsChecked, first_no}
 use Rattle.transcript_check.specs.Laws.{IsBlanked}
-use Rattle.transcript_check.specs.PairStreams.{ParsesIntoPairs}
 use Rattle.transcript_check.specs.Transcripts.{IsLawful}
-use Rattle.machine_transcripts.specs.Weaving.{IsSent, woven, recorded_of, pairs_of}
+use Rattle.transcript_pairs.specs.PairStreams.{ParsesIntoPairs, pairs_of}
+use Rattle.machine_transcripts.specs.Weaving.{IsSent, woven, recorded_of}
 
 -- Commands and replies leave a lawful transcript: their bytes are the frames of its pairs and nothing more, the pairs are lawful steps from
 -- where there is no power, and no answer of a checker that is asked of them is no.

@@ -1,10 +1,9 @@
 -- The transcript of commands and the replies to them: as bytes, and as pairs.
-use Rattle.std.specs.Prelude.{ℕ, List, [], ◌∷◌, ◌++◌, map}
+use Rattle.std.specs.Prelude.{ℕ, List, [], ◌∷◌, ◌++◌}
 use Rattle.bits_core.specs.ByteList.{IsBytes}
 use Rattle.module_frames.specs.CommandFrames.{CommandFrame, IsSendable, command_encoding}
 use Rattle.module_frames.specs.ReplyFrames.{ReplyFrame, head_of, reply_encoding}
-use Rattle.transcript_check.specs.PairStreams.{Recorded}
-use Rattle.transcript_check.specs.Transcripts.{Pair}
+use Rattle.transcript_pairs.specs.PairStreams.{Recorded}
 
 -- bytes may bring the command: it has a frame, and the frame is bytes
 pub record IsSent (command : CommandFrame) : Type 0 where
@@ -27,7 +26,3 @@ abbrev pub recorded_of : List CommandFrame → List ReplyFrame → List Recorded
 recorded_of [] replies = []
 recorded_of (command ∷ commands) [] = []
 recorded_of (command ∷ commands) (reply ∷ replies) = recorded command reply ∷ recorded_of commands replies
-
--- the transcript, which has no payloads
-abbrev pub pairs_of : List Recorded → List Pair
-pairs_of records = map (λ (r : Recorded). r.pair) records

@@ -10,7 +10,7 @@ use Rattle.bits_core.proofs.Bytes.{IsBytes-take}
 use Rattle.engine_core.specs.Calls.{Calls, Keeps}
 use Rattle.self_tests.specs.declared.table.TheConstants.{IMAGE_KEY}
 use Rattle.self_tests.specs.Integrity.{image_digest}
-use Rattle.module_top.specs.DigestFile.{digits_of, digest_of}
+use Rattle.program_words.specs.DigestFile.{digits_of, digest_of}
 use Rattle.module_top.specs.Program.{digest_line}
 
 -- the LF behind 64 digits goes

@@ -1,8 +1,5 @@
 pub mod NamedFiles
 pub mod DigestLines
-pub mod SpelledNumbers
-pub mod WorkRuns
-pub mod WorkOutcomes
 pub mod OneOutput
 pub mod RunOutcomes
 pub mod ReportOutcomes

@@ -7,8 +7,9 @@ use Rattle.stream_calls.specs.declared.limits.TheConstants.{CHUNK}
 use Rattle.vector_reports.specs.declared.reporting.Reported.{Reported}
 use Rattle.vector_reports.specs.declared.reporting.Reported.TheVariants as reported
 use Rattle.vector_reports.specs.Reporting.{Reports, ReadsLeft, WritesLeft}
-use Rattle.module_top.specs.Forms.{FormValue, Vectors}
-use Rattle.module_top.specs.Outcomes.{is_refusal, reads_source, ReadsStay, Outside, IsOutcome}
+use Rattle.program_words.specs.Faults.{is_refusal}
+use Rattle.program_words.specs.Forms.{FormValue, Vectors}
+use Rattle.module_top.specs.Outcomes.{reads_source, ReadsStay, Outside, IsOutcome}
 use Rattle.module_top.specs.Program.{report_status}
 
 -- the statuses of reports are no refusals
@@ -52,6 +53,15 @@ writes_stay reported.ReadFault before after left h = left
 writes_stay reported.WriteFault before after left h = absurd (h refl)
 writes_stay reported.Limit before after left h = left
 
+-- no backup is refused
+no_fifteen : (answer : Reported) → report_status answer ≡ 15 → ⊥
+no_fifteen reported.AllPassed h = omega (arith, h)
+no_fifteen reported.SomeFailed h = omega (arith, h)
+no_fifteen (reported.BadLine number) h = omega (arith, h)
+no_fifteen reported.ReadFault h = omega (arith, h)
+no_fifteen reported.WriteFault h = omega (arith, h)
+no_fifteen reported.Limit h = omega (arith, h)
+
 -- a fact about all files
 pub any_files : {Q : FilesContent → Type 0} (files : Option FilesContent) → ((all : FilesContent) → Q all) → IfSome files Q
 any_files None each = tt
@@ -62,12 +72,19 @@ pub vectors_reported : {V S K : Type 0} (calls : Calls V) (engine last : V) (fil
     → Reports calls answer CHUNK engine last before.streams after.streams → ReadsLeft answer before.read_faults after.read_faults → WritesLeft answer before.write_faults after.write_faults
     → IsOutcome calls engine files (Some Vectors) (report_status answer) before after
 vectors_reported calls engine last files answer before after same reports reads writes =
-    let isn't : is_refusal (report_status answer) ≡ false = no_refusal answer in record {
+    record {
       usage = (λ two. absurd (never 2 two refl), λ none. cc);
-      untouched = λ is. let no : true ≡ false = sym is ∙ isn't in cc no;
+      untouched = λ stops. absurd (elim stops [
+        | inl is ↦ never_true is
+        | inr fifteen ↦ no_fifteen answer fifteen
+      ]);
       source_stays = λ form is not_read. let no : true ≡ false = ap reads_of is ∙ not_read in cc no;
-      image_too_long = any_files files (λ all _ _. (λ nine. absurd (never 9 nine refl), λ long. absurd long));
-      bad_digest = any_files files (λ all _ _. (λ eleven. absurd (never 11 eleven refl), λ bad. absurd bad));
+      suits = any_files files (λ all _ _. record {
+        image_too_long = (λ nine. absurd (never 9 nine refl), λ long. absurd long);
+        bad_digest = (λ eleven. absurd (never 11 eleven refl), λ bad. absurd bad);
+        bad_keys = (λ thirteen. absurd (never 13 thirteen refl), λ bad. absurd bad);
+        backup_too_long = λ long. absurd long;
+      });
       done = λ _. (answer, last, refl, reports);
       file_fault = λ eight. absurd (never 8 eight refl);
       files_unchanged = λ _. same;
@@ -79,6 +96,9 @@ vectors_reported calls engine last files answer before after same reports reads 
   where
     never : (other : ℕ) → report_status answer ≡ other → is_refusal other ≡ true → ⊥
     never other is refusal = let no : true ≡ false = sym refusal ∙ ap is_refusal (sym is) ∙ no_refusal answer in cc no
+
+    never_true : is_refusal (report_status answer) ≡ true → ⊥
+    never_true is = let no : true ≡ false = sym is ∙ no_refusal answer in cc no
 
     reads_of : Option FormValue → Bool
     reads_of None = true

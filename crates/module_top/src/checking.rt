@@ -3,17 +3,17 @@ ghost use Rattle.std.specs.Prelude.{◌≡◌, ℕ, Option, Some, IfOk, OnErr};
 ghost use Rattle.outside.specs.FilesContent.{FilesContent};
 ghost use Rattle.stream_calls.specs.declared.limits.TheConstants.{CHUNK};
 ghost use Rattle.transcript_report.specs.Checks.{Checks, ReadsLeft, WritesLeft};
-ghost use Rattle.module_top.specs.Faults.{result_status};
-ghost use Rattle.module_top.specs.Forms.{Check};
+ghost use Rattle.program_words.specs.Faults.{result_status};
+ghost use Rattle.program_words.specs.Forms.{Check};
 ghost use Rattle.module_top.specs.Outcomes.{IsOutcome};
 ghost use Rattle.module_top.specs.Program.{check_status};
 
-use crate::faults::RunFault;
 use engine_core::Engine;
 use outside::{Sink, Source};
+use program_words::RunFault;
 use std::alloc::{AllocError, Global};
 use stream_calls::CHUNK;
-use transcript_check::Pairs;
+use transcript_pairs::Pairs;
 use transcript_report::{Checked, check_transcript};
 
 // Takes all the memory, and then checks. Without memory nothing is read or written.

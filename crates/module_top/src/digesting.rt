@@ -1,16 +1,16 @@
 // The digest of an image, as a line of text.
 ghost use Rattle.std.specs.Prelude.{◌≡◌, ◌++◌, [], ◌∷◌, Some, None};
 ghost use Rattle.hex.specs.Hex.{encode_lower};
-ghost use Rattle.module_top.specs.Faults.{result_status};
-ghost use Rattle.module_top.specs.Forms.{Digest};
+ghost use Rattle.program_words.specs.Faults.{result_status};
+ghost use Rattle.program_words.specs.Forms.{Digest};
 ghost use Rattle.module_top.specs.Outcomes.{IsOutcome};
 
-use crate::faults::RunFault;
 use crate::loading::load_image;
 use engine_core::Engine;
 use hex::encode_to_slice;
 use outside::{Files, Sink};
 use self_tests::image_digest;
+use program_words::RunFault;
 use std::alloc::Global;
 use stream_calls::write_all;
 

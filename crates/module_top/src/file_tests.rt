@@ -1,5 +1,5 @@
 // Words and files: what each of them is refused for, in which order, and the line of a digest.
-use crate::digest_file::digest_of;
+use program_words::digest_of;
 use crate::run;
 use engine_core::Shipped;
 use outside::{MemFiles, MemSink, MemSource, Sample};

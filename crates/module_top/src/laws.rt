@@ -1,7 +1,7 @@
 // Laws of the program's definition, each the contract of a function without a body.
 ghost use Rattle.std.specs.Prelude.{◌≡◌, ℕ, List, Some};
 ghost use Rattle.self_tests.specs.Integrity.{image_digest};
-ghost use Rattle.module_top.specs.DigestFile.{digest_of};
+ghost use Rattle.program_words.specs.DigestFile.{digest_of};
 ghost use Rattle.module_top.specs.Program.{HasOneOutput, digest_line};
 
 use engine_core::Engine;

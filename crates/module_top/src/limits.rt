@@ -1,16 +1,10 @@
-// The limits of files and of the numbers in words.
+// The limits of files and of memory.
 
 /// The most bytes of the program's image.
 pub const LARGEST_IMAGE: usize = 16_777_216;
 
 /// The most bytes of a digest file: 64 digits and an LF.
 pub const LARGEST_DIGEST_FILE: usize = 65;
-
-/// The largest seed of a session.
-pub const LARGEST_SEED: u64 = u64::MAX;
-
-/// The most commands that a session draws.
-pub const LARGEST_COUNT: u64 = 100_000;
 
 /// How many bytes a vector's check works in.
 pub const VECTOR_WORK: usize = 131_456;

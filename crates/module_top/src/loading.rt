@@ -1,17 +1,23 @@
 // The files that the words name.
-ghost use Rattle.std.specs.Prelude.{◌≡◌, ◌≤◌, ℕ, List, Some, IfSome, IfOk, IfErr, OnOk, length};
+ghost use Rattle.std.specs.Prelude.{◌≡◌, ◌≢◌, ◌≤◌, ℕ, List, Option, Some, None, IfSome, IfOk, IfErr, OnOk, length};
+ghost use Rattle.std.specs.Option.{option_map};
 ghost use Rattle.outside.specs.declared.traits.Sample.{Sample};
 ghost use Rattle.outside.specs.Faults.{FaultCounted};
 ghost use Rattle.outside.specs.FilesContent.{HasFile};
-ghost use Rattle.module_top.specs.DigestFile.{digest_of};
+ghost use Rattle.vault_backup.specs.declared.limits.TheConstants.{BACKUP_MOST};
+ghost use Rattle.program_words.specs.DigestFile.{digest_of};
+ghost use Rattle.backup_runs.specs.TwoKeys.{AreKeys};
+ghost use Rattle.backup_runs.specs.declared.limits.TheConstants.{KEYS_LENGTH};
 ghost use Rattle.module_top.specs.Program.{HasNoise};
-ghost use Rattle.module_top.specs.Outcomes.{ImageRefused, DigestRefused};
+ghost use Rattle.module_top.specs.Outcomes.{AreKeysOf, IsNamedFile, ImageRefused, DigestRefused, KeysRefused, BackupRefused};
 
-use crate::digest_file::digest_of;
-use crate::faults::RunFault;
 use crate::limits::{LARGEST_DIGEST_FILE, LARGEST_IMAGE};
+use backup_runs::KEYS_LENGTH;
+use bits_core::wipe;
 use outside::{Files, LoadFault};
+use program_words::{RunFault, digest_of};
 use std::alloc::Global;
+use vault_backup::BACKUP_MOST;
 
 /// The image of this name.
 pub fn load_image<F: Files>(alloc: Global, files: &mut F, name: &str) -> Result<Vec<u8>, RunFault>
@@ -39,6 +45,65 @@ pub fn load_digest<F: Files>(alloc: Global, files: &mut F, name: &str) -> Result
     match files.load(alloc, name, LARGEST_DIGEST_FILE) {
         Ok(text) => digest_of(&text).ok_or(RunFault::BadDigest),
         Err(LoadFault::TooLong) => Err(RunFault::BadDigest),
+        Err(LoadFault::Failed) => Err(RunFault::FileFailed),
+        Err(LoadFault::NoMemory) => Err(RunFault::OutOfMemory),
+    }
+}
+
+// The two keys, where these bytes are so many; else they are made zero.
+fn two_keys(mut keys: Vec<u8>) -> Result<Vec<u8>, RunFault>
+    ensures keys { IfOk result (λ loaded. (loaded.items ≡ keys.items) × AreKeys loaded.items) }
+    ensures refused { IfErr result (λ fault. (fault ≡ RunFault.BadKeyFile) × (length keys.items ≢ KEYS_LENGTH)) }
+{
+    if keys.len() == KEYS_LENGTH {
+        Ok(keys)
+    } else {
+        wipe(&mut keys);
+        Err(RunFault::BadKeyFile)
+    }
+}
+
+/// The two keys in the file of this name: 64 bytes. None where there is no name.
+pub fn load_keys<F: Files>(
+    alloc: Global,
+    files: &mut F,
+    name: Option<&str>,
+) -> Result<Vec<u8>, RunFault>
+    ensures keys { IfOk result (λ keys. AreKeysOf (option_map (λ n. n.now) name) keys.items) }
+    ensures named { IfSome (F.content files.old) (λ all. IfOk result (λ keys. IsNamedFile all (option_map (λ n. n.now) name) keys.items)) }
+    ensures kept { F.content files.new ≡ F.content files.old }
+    ensures faults_unchanged { OnOk result (F.faults files.new ≡ F.faults files.old) }
+    ensures refused { IfErr result (λ fault. KeysRefused (F.content files.old) (option_map (λ n. n.now) name) fault (F.faults files.old) (F.faults files.new)) }
+{
+    let Some(name) = name else {
+        return Ok(Vec::new(alloc));
+    };
+    match files.load(alloc, name, KEYS_LENGTH) {
+        Ok(keys) => two_keys(keys),
+        Err(LoadFault::TooLong) => Err(RunFault::BadKeyFile),
+        Err(LoadFault::Failed) => Err(RunFault::FileFailed),
+        Err(LoadFault::NoMemory) => Err(RunFault::OutOfMemory),
+    }
+}
+
+/// The backup of this name, which may be refused yet. None where there is no name.
+pub fn load_backup<F: Files>(
+    alloc: Global,
+    files: &mut F,
+    name: Option<&str>,
+) -> Result<Vec<u8>, RunFault>
+    ensures fits { IfOk result (λ backup. length backup.items ≤ BACKUP_MOST) }
+    ensures named { IfSome (F.content files.old) (λ all. IfOk result (λ backup. IsNamedFile all (option_map (λ n. n.now) name) backup.items)) }
+    ensures kept { F.content files.new ≡ F.content files.old }
+    ensures faults_unchanged { OnOk result (F.faults files.new ≡ F.faults files.old) }
+    ensures refused { IfErr result (λ fault. BackupRefused (F.content files.old) (option_map (λ n. n.now) name) fault (F.faults files.old) (F.faults files.new)) }
+{
+    let Some(name) = name else {
+        return Ok(Vec::new(alloc));
+    };
+    match files.load(alloc, name, BACKUP_MOST) {
+        Ok(backup) => Ok(backup),
+        Err(LoadFault::TooLong) => Err(RunFault::BadBackup),
         Err(LoadFault::Failed) => Err(RunFault::FileFailed),
         Err(LoadFault::NoMemory) => Err(RunFault::OutOfMemory),
     }

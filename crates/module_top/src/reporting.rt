@@ -3,16 +3,16 @@ ghost use Rattle.std.specs.Prelude.{◌≡◌, ◌≢◌, ℕ, Option, Some, IfO
 ghost use Rattle.outside.specs.FilesContent.{FilesContent};
 ghost use Rattle.stream_calls.specs.declared.limits.TheConstants.{CHUNK};
 ghost use Rattle.vector_reports.specs.Reporting.{Reports, ReadsLeft, WritesLeft};
-ghost use Rattle.module_top.specs.Faults.{result_status};
-ghost use Rattle.module_top.specs.Forms.{Vectors};
+ghost use Rattle.program_words.specs.Faults.{result_status};
+ghost use Rattle.program_words.specs.Forms.{Vectors};
 ghost use Rattle.module_top.specs.Outcomes.{IsOutcome};
 ghost use Rattle.module_top.specs.Program.{report_status};
 
-use crate::faults::RunFault;
 use crate::limits::VECTOR_WORK;
 use engine_core::Engine;
 use line_input::Lines;
 use outside::{Sink, Source};
+use program_words::RunFault;
 use std::alloc::{AllocError, Global};
 use stream_calls::CHUNK;
 use vector_reports::{Reported, report_vectors};

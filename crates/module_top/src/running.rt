@@ -1,39 +1,44 @@
 // The program, from its words, its files and its input to its exit status and its output.
-ghost use Rattle.std.specs.Prelude.{◌≡◌, ◌≢◌, ◌↔◌, ◌++◌, ℕ, List, Some, None, false, true, IfSome, map};
+ghost use Rattle.std.specs.Prelude.{◌≡◌, ◌≢◌, ◌↔◌, ◌++◌, ◌⊎◌, ℕ, List, Some, None, false, true, IfSome, map};
 ghost use Rattle.std.specs.String.{string_bytes};
 ghost use Rattle.outside.specs.Faults.{FaultCounted};
 ghost use Rattle.outside.specs.FilesContent.{FilesContent};
 ghost use Rattle.engine_core.specs.Calls.{IsStandard};
-ghost use Rattle.module_top.specs.Faults.{result_status};
-ghost use Rattle.module_top.specs.Forms.{FormValue, OnModule, form_of};
+ghost use Rattle.program_words.specs.Faults.{is_refusal, result_status};
+ghost use Rattle.program_words.specs.Forms.{FormValue, HasKeys, OnModule, form_of, names_value};
+ghost use Rattle.module_works.specs.WorkOutcomes.{HasKeyBytes};
 ghost use Rattle.module_top.specs.Program.{IsProgramOutput};
-ghost use Rattle.module_top.specs.Outcomes.{is_refusal, reads_source, HasLongImage, HasBadDigest, IsWorkOf, IsOutcome, ReadsStay};
+ghost use Rattle.module_top.specs.Outcomes.{reads_source, AreLoaded, HasLongImage, HasBadDigest, HasBadKeys, HasLongBackup, IsWorkOf, IsOutcome, ReadsStay};
 ghost use Rattle.module_top.specs.Secrets.{OutputKeepsSecrets};
 
 use crate::checking::check_pairs;
 use crate::digesting::digest_image;
-use crate::faults::RunFault;
-use crate::loading::{load_digest, load_image, open_noise};
+use crate::loading::{load_backup, load_digest, load_image, load_keys, open_noise};
 use crate::reporting::check_vectors;
-use crate::words::{Form, Work, form_of};
-use crate::working::do_work;
+use bits_core::wipe;
 use engine_core::Engine;
+use module_works::do_work;
 use outside::{Files, Sink, Source};
+use program_words::{FileNames, Form, RunFault, Work, form_of};
 use std::alloc::Global;
 
-// Loads image and digest, opens the noise, and does the work on a module with them.
-fn work_on_files<E: Engine, F: Files, S: Source, K: Sink>(
+// Loads the backup, opens the noise, and does the work on a module with them, with this image, digest and keys.
+fn work_with_keys<E: Engine, F: Files, S: Source, K: Sink>(
     alloc: Global,
     work: Work,
-    image_name: &str,
-    digest_name: &str,
-    noise_name: &str,
+    names: FileNames<'_>,
+    keys: &mut [u8],
+    image: Vec<u8>,
+    digest: [u8; 32],
     files: &mut F,
     commands: &mut S,
     replies: &mut K,
     engine: E,
 ) -> Result<(), RunFault>
-    ensures outcome { IsOutcome E.calls engine (F.content files.old) (Some (OnModule work image_name.now digest_name.now noise_name.now)) (result_status result)
+    requires keys { HasKeyBytes work keys.old }
+    // Where image, digest and keys are those of the names:
+    ensures outcome { (text : List ℕ) → AreLoaded (F.content files.old) (names_value names.entry) image.items text digest keys.old →
+        IsOutcome E.calls engine (F.content files.old) (Some (OnModule work (names_value names.entry))) (result_status result)
         (record {
           source = commands.old;
           sink = replies.old;
@@ -51,12 +56,50 @@ fn work_on_files<E: Engine, F: Files, S: Source, K: Sink>(
           write_faults = K.faults replies.new;
         }) }
 {
-    let image = load_image(alloc, files, image_name)?;
-    let digest = load_digest(alloc, files, digest_name)?;
-    let mut noise = open_noise(files, noise_name)?;
+    let backup = load_backup(alloc, files, names.backup)?;
+    let mut noise = open_noise(files, names.noise)?;
     do_work(
-        alloc, work, engine, image, digest, &mut noise, commands, replies,
+        alloc, work, keys, &backup, engine, image, digest, &mut noise, commands, replies,
     )
+}
+
+// Loads image, digest and keys, and does the work with them; however that ends, the keys are zero then.
+fn work_on_files<E: Engine, F: Files, S: Source, K: Sink>(
+    alloc: Global,
+    work: Work,
+    names: FileNames<'_>,
+    files: &mut F,
+    commands: &mut S,
+    replies: &mut K,
+    engine: E,
+) -> Result<(), RunFault>
+    requires keys { HasKeys work (names_value names.entry) }
+    ensures outcome { IsOutcome E.calls engine (F.content files.old) (Some (OnModule work (names_value names.entry))) (result_status result)
+        (record {
+          source = commands.old;
+          sink = replies.old;
+          streams = record { left = S.left commands.old; gained = K.gained replies.old };
+          file_faults = F.faults files.old;
+          read_faults = S.faults commands.old;
+          write_faults = K.faults replies.old;
+        })
+        (record {
+          source = commands.new;
+          sink = replies.new;
+          streams = record { left = S.left commands.new; gained = K.gained replies.new };
+          file_faults = F.faults files.new;
+          read_faults = S.faults commands.new;
+          write_faults = K.faults replies.new;
+        }) }
+{
+    let image = load_image(alloc, files, names.image)?;
+    let digest = load_digest(alloc, files, names.digest)?;
+    let mut keys = load_keys(alloc, files, names.keys)?;
+    let done = work_with_keys(
+        alloc, work, names, &mut keys, image, digest, files, commands, replies, engine,
+    );
+    wipe(&mut keys);
+    done
 }
 
 // Does what the words say.
@@ -89,16 +132,9 @@ fn perform<E: Engine, F: Files, S: Source, K: Sink>(
 {
     match form_of(words) {
         None => Err(RunFault::Usage),
-        Some(
-            Form::OnModule {
-                work,
-                image,
-                digest,
-                noise,
-            },
-        ) => work_on_files(
-            alloc, work, image, digest, noise, files, commands, replies, engine,
-        ),
+        Some(Form::OnModule { work, names }) => {
+            work_on_files(alloc, work, names, files, commands, replies, engine)
+        }
         Some(Form::Digest { image }) => digest_image(alloc, image, files, replies, engine),
         Some(Form::Vectors) => check_vectors(alloc, commands, replies, engine),
         Some(Form::Check) => check_pairs::<E, S, K>(alloc, commands, replies),
@@ -149,13 +185,17 @@ pub fn run<E: Engine, F: Files, S: Source, K: Sink>(
     ensures usage { (result ≡ 2) ↔ (form_of (map string_bytes words.now) ≡ None) }
     ensures no_file { result ≡ 2 → files.new ≡ files.old }
 
-    // A run that is refused leaves source and sink as they were, and that of `digest` and of `session` the source in any case.
-    ensures untouched { is_refusal result ≡ true → (commands.new ≡ commands.old) × (replies.new ≡ replies.old) }
+    // A run that is refused leaves source and sink as they were, and so does one whose backup is; that of `digest` and of `session` leaves the source
+    // in any case.
+    ensures untouched { (is_refusal result ≡ true) ⊎ (result ≡ 15) → (commands.new ≡ commands.old) × (replies.new ≡ replies.old) }
     ensures source_stays { (form : FormValue) → form_of (map string_bytes words.now) ≡ Some form → reads_source form ≡ false → commands.new ≡ commands.old }
 
     // A file is refused exactly where it is too long or not of its form.
     ensures image_too_long { IfSome (F.content files.old) (λ all. result ≢ 7 → result ≢ 8 → (result ≡ 9) ↔ HasLongImage all (form_of (map string_bytes words.now))) }
     ensures bad_digest { IfSome (F.content files.old) (λ all. result ≢ 7 → result ≢ 8 → (result ≡ 11) ↔ HasBadDigest all (form_of (map string_bytes words.now))) }
+
+    ensures bad_keys { IfSome (F.content files.old) (λ all. result ≢ 7 → result ≢ 8 → (result ≡ 13) ↔ HasBadKeys all (form_of (map string_bytes words.now))) }
+    ensures backup_too_long { IfSome (F.content files.old) (λ all. result ≢ 7 → result ≢ 8 → HasLongBackup all (form_of (map string_bytes words.now)) → result ≡ 15) }
 
     // Else the work was done, or up to a failed call a part of it.
     ensures done { is_refusal result ≡ false → IsWorkOf E.calls engine (F.content files.old) (form_of (map string_bytes words.now)) result

@@ -7,8 +7,3 @@ pub mod SlotBlocks
 pub mod Walks
 pub mod Blanking
 pub mod Indicators
-pub mod ReplyEncodings
-pub mod ReplyFaults
-pub mod HeldPairs
-pub mod PairFeeding
-pub mod PairParsing

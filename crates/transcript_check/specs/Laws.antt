@@ -5,7 +5,6 @@ use Rattle.service_table.specs.declared.service.Service.TheVariants as service
 use Rattle.module_frames.specs.CommandFrames.{CommandFrame}
 use Rattle.module_frames.specs.PublicState.{unpowered}
 use Rattle.module_frames.specs.declared.public_state.PublicState.{PublicState}
-use Rattle.transcript_check.specs.PairStreams.{ParsesIntoPairs, Recorded}
 use Rattle.transcript_check.specs.Transcripts.{Pair, IsWalk, IsLawful, IsFirstUnlawful}
 use Rattle.transcript_check.specs.Checking.{IsChecked, first_no}
 
@@ -61,8 +60,3 @@ AreAlike (pair ∷ rest) (other ∷ others) =
 abbrev pub WalkIsDetermined : Type 0
 WalkIsDetermined = (before one two : PublicState) (transcript other : List Pair) → AreAlike transcript other
     → IsWalk before transcript one → IsWalk before other two → one ≡ two
-
--- Two parses of the same bytes have the same pairs, the same payloads and the same remainder.
-abbrev pub PairsParseInOneWay : Type 0
-PairsParseInOneWay = (bytes : List ℕ) (ones others : List Recorded) (remainder left : List ℕ)
-    → ParsesIntoPairs bytes ones remainder → ParsesIntoPairs bytes others left → (ones ≡ others) × (remainder ≡ left)

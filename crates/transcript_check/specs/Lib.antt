@@ -2,7 +2,4 @@ pub mod Transcripts
 pub mod Checking
 pub mod Counting
 pub mod Effects
-pub mod ReplyStreams
-pub mod PairStreams
-pub mod PairSteps
 pub mod Laws

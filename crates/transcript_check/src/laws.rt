@@ -1,5 +1,5 @@
 // Laws of transcripts, each the contract of a function without a body.
-ghost use Rattle.transcript_check.specs.Laws.{YesIsLawful, NoIsFirstUnlawful, UnlawfulIsNotLawful, BlankedIsTheSameWalk, BlankedStaysLawful, WalkIsDetermined, PairsParseInOneWay};
+ghost use Rattle.transcript_check.specs.Laws.{YesIsLawful, NoIsFirstUnlawful, UnlawfulIsNotLawful, BlankedIsTheSameWalk, BlankedStaysLawful, WalkIsDetermined};
 
 /// A checker's answers tell whether a transcript is lawful: it says yes to all pairs exactly where it is, and else its first no is to the
 /// first pair that isn't lawful, counted from 1.
@@ -19,9 +19,4 @@ pub fn entered_bytes_may_be_blanked()
 /// Where a walk leads is determined by the commands, the statuses and the error codes.
 pub fn walks_are_determined()
     ensures { WalkIsDetermined }
-{}
-
-/// No pair's bytes are the beginning of another's, so the bytes of a transcript split into pairs and a remainder in one way.
-pub fn pairs_parse_in_one_way()
-    ensures { PairsParseInOneWay }
 {}

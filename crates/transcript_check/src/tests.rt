@@ -5,26 +5,41 @@ use crate::transcript_rows::{
     PERIODS, PERIODS_ROWS, Row,
 };
 use module_frames::{Command, reply_head};
+use std::alloc::{AllocError, Global};
 use std::test::Fail;
 
-pub(crate) fn dialogue() -> &'static [u8] {
-    &DIALOGUE
+// The value of a hexadecimal digit.
+fn digit(letter: u8) -> Option<u8> {
+    match letter {
+        b'0'..=b'9' => Some(letter.wrapping_sub(b'0')),
+        b'a'..=b'f' => Some(letter.wrapping_sub(b'a').wrapping_add(10)),
+        _ => None,
+    }
 }
 
-pub(crate) fn keys() -> &'static [u8] {
-    &KEYS
+// Puts the bytes that a line spells behind the others; between two frames stands a space.
+fn push_line(bytes: &mut Vec<u8>, line: &str) -> Result<(), AllocError> {
+    let mut high = None;
+    for letter in line.as_bytes() {
+        match (high, digit(*letter)) {
+            (_, None) => high = None,
+            (None, Some(value)) => high = Some(value << 4),
+            (Some(front), Some(value)) => {
+                bytes.push(front | value)?;
+                high = None;
+            }
+        }
+    }
+    Ok(())
 }
 
-pub(crate) fn numbered() -> &'static [u8] {
-    &NUMBERED
-}
-
-pub(crate) fn failures() -> &'static [u8] {
-    &FAILURES
-}
-
-pub(crate) fn periods() -> &'static [u8] {
-    &PERIODS
+// The pairs of a transcript, one behind another, without payloads.
+fn pairs_of(alloc: Global, lines: &[&str]) -> Result<Vec<u8>, AllocError> {
+    let mut bytes = Vec::new(alloc);
+    for line in lines {
+        push_line(&mut bytes, line)?;
+    }
+    Ok(bytes)
 }
 
 fn number(bytes: &[u8]) -> u32 {
@@ -52,12 +67,19 @@ fn take_command<'a>(bytes: &'a [u8], command: &mut Command) -> Option<&'a [u8]> 
     tail.get(length..)
 }
 
-// The head of the reply at the front, and what stands behind the reply.
-fn take_head(bytes: &[u8]) -> Option<(&[u8], &[u8])> {
-    let size = if *bytes.get(1)? == 2 { 28usize } else { 24 };
-    let head = bytes.get(..size)?;
-    let payload = reply_head(head)?.length as usize;
-    Some((head, bytes.get(size..)?.get(payload..)?))
+// Reads the pair at the front, and answers its reply's head and what stands behind it.
+fn take_pair<'a>(bytes: &'a [u8], command: &mut Command) -> Option<(&'a [u8], &'a [u8])> {
+    let reply = take_command(bytes, command)?;
+    let size = if *reply.get(1)? == 2 { 28usize } else { 24 };
+    Some((reply.get(..size)?, reply.get(size..)?))
+}
+
+// Whether the walk goes on with this pair.
+fn goes_on(walk: &mut Checker, command: &Command, head: &[u8]) -> bool {
+    match reply_head(head) {
+        Some(told) => walk.step(command, &told),
+        None => false,
+    }
 }
 
 // The number of the first pair that isn't lawful, where the walk goes on with the one of this number; 0 where there is none.
@@ -68,17 +90,10 @@ fn first_unlawful(checker: Checker, bytes: &[u8], command: &mut Command, from: u
         if rest.is_empty() {
             return 0;
         }
-        let Some(reply) = take_command(rest, command) else {
+        let Some((head, behind)) = take_pair(rest, command) else {
             return u32::MAX;
         };
-        let Some((head, behind)) = take_head(reply) else {
-            return u32::MAX;
-        };
-        let lawful = match reply_head(head) {
-            Some(told) => walk.step(command, &told),
-            None => false,
-        };
-        if !lawful {
+        if !goes_on(&mut walk, command, head) {
             return from.wrapping_add(turn);
         }
         rest = behind;
@@ -88,8 +103,9 @@ fn first_unlawful(checker: Checker, bytes: &[u8], command: &mut Command, from: u
 
 // What the script says of a pair with this byte changed to this value.
 fn wanted(rows: &[Row], pair: u32, byte: usize, value: u8) -> u32 {
-    for (of_pair, of_byte, from, to, verdict) in rows {
-        if *of_pair == pair && *of_byte == byte && *from <= value && value <= *to {
+    for (of_pair, first, last, from, to, verdict) in rows {
+        let is_of_byte = *of_pair == pair && *first <= byte && byte <= *last;
+        if is_of_byte && *from <= value && value <= *to {
             return *verdict;
         }
     }
@@ -108,11 +124,8 @@ struct Place<'a> {
 
 // What is said of the pair with this head.
 fn verdict(place: &Place<'_>, head: &[u8], command: &Command, ahead: &mut Command) -> u32 {
-    let Some(told) = reply_head(head) else {
-        return place.pair;
-    };
     let mut walk = place.walk;
-    if !walk.step(command, &told) {
+    if !goes_on(&mut walk, command, head) {
         return place.pair;
     }
     first_unlawful(walk, place.behind, ahead, place.pair.wrapping_add(1))
@@ -137,24 +150,29 @@ fn byte_is_judged(place: &Place<'_>, byte: usize, command: &Command, ahead: &mut
     true
 }
 
-// The first pair and byte of which something else is found than the script says, or 0 where there is none.
-fn misjudged(
-    bytes: &[u8],
-    rows: &[Row],
-    command: &mut Command,
-    ahead: &mut Command,
-) -> (u32, usize) {
+// The first byte of this pair's head of which something else is found than the script says, or 28 where there is none.
+fn misjudged_byte(place: &Place<'_>, command: &Command, ahead: &mut Command) -> usize {
+    for byte in 0..28usize {
+        if !byte_is_judged(place, byte, command, ahead) {
+            return byte;
+        }
+    }
+    28
+}
+
+// How many pairs there are, or the first of which something else is found than the script says, and the byte; 100 where it isn't one, and
+// 101 where it isn't lawful as it is.
+fn judged(alloc: Global, lines: &[&str], rows: &[Row]) -> Result<(u32, usize), AllocError> {
+    let (mut command, mut ahead) = (Command::new(alloc)?, Command::new(alloc)?);
+    let bytes = pairs_of(alloc, lines)?;
     let mut walk = Checker::new();
-    let mut rest = bytes;
+    let mut rest = bytes.as_slice();
     for pair in 1..200u32 {
         if rest.is_empty() {
-            return (0, 0);
+            return Ok((pair.wrapping_sub(1), 28));
         }
-        let Some(reply) = take_command(rest, command) else {
-            return (pair, 100);
-        };
-        let Some((head, behind)) = take_head(reply) else {
-            return (pair, 101);
+        let Some((head, behind)) = take_pair(rest, &mut command) else {
+            return Ok((pair, 100));
         };
         let place = Place {
             walk,
@@ -163,26 +181,51 @@ fn misjudged(
             behind,
             rows,
         };
-        for byte in 0..28usize {
-            if !byte_is_judged(&place, byte, command, ahead) {
-                return (pair, byte);
-            }
+        let byte = misjudged_byte(&place, &command, &mut ahead);
+        if byte != 28 {
+            return Ok((pair, byte));
         }
-        let lawful = match reply_head(head) {
-            Some(told) => walk.step(command, &told),
-            None => false,
-        };
-        if !lawful {
-            return (pair, 102);
+        if !goes_on(&mut walk, &command, head) {
+            return Ok((pair, 101));
         }
         rest = behind;
     }
-    (200, 0)
+    Ok((200, 0))
 }
 
-// The same with zeros where the command brings bytes of a parameter or its check value.
-fn take_blanked<'a>(bytes: &'a [u8], command: &mut Command) -> Option<&'a [u8]> {
-    let behind = take_command(bytes, command)?;
+#[test]
+fn the_dialogue_of_the_manual_is_judged(rt: HostRuntime) -> Result<(), Fail> {
+    assert_eq!(rt; judged(rt.alloc(), &DIALOGUE, &DIALOGUE_ROWS)?, (38, 28));
+    Ok(())
+}
+
+#[test]
+fn the_dialogue_with_keys_is_judged(rt: HostRuntime) -> Result<(), Fail> {
+    assert_eq!(rt; judged(rt.alloc(), &KEYS, &KEYS_ROWS)?, (55, 28));
+    Ok(())
+}
+
+#[test]
+fn numbered_commands_are_judged(rt: HostRuntime) -> Result<(), Fail> {
+    assert_eq!(rt; judged(rt.alloc(), &NUMBERED, &NUMBERED_ROWS)?, (22, 28));
+    Ok(())
+}
+
+#[test]
+fn failures_are_judged(rt: HostRuntime) -> Result<(), Fail> {
+    assert_eq!(rt; judged(rt.alloc(), &FAILURES, &FAILURES_ROWS)?, (136, 28));
+    Ok(())
+}
+
+#[test]
+fn ends_of_periods_are_judged(rt: HostRuntime) -> Result<(), Fail> {
+    assert_eq!(rt; judged(rt.alloc(), &PERIODS, &PERIODS_ROWS)?, (45, 28));
+    Ok(())
+}
+
+// The pair with zeros where the command brings bytes of a parameter or its check value.
+fn take_blanked<'a>(bytes: &'a [u8], command: &mut Command) -> Option<(&'a [u8], &'a [u8])> {
+    let pair = take_pair(bytes, command)?;
     let service = command.service();
     let length = command.body().len().min(64);
     if service == 0x09 || service == 0x0a {
@@ -192,87 +235,34 @@ fn take_blanked<'a>(bytes: &'a [u8], command: &mut Command) -> Option<&'a [u8]> 
             None => command.set(service, &zeros[..length]),
         }
     }
-    Some(behind)
+    Some(pair)
 }
 
 // How many pairs of a transcript are lawful with its entered bytes blanked, and how many there are.
-fn blanked(bytes: &[u8], command: &mut Command) -> (u32, u32) {
+fn blanked(alloc: Global, lines: &[&str]) -> Result<(u32, u32), AllocError> {
+    let mut command = Command::new(alloc)?;
+    let bytes = pairs_of(alloc, lines)?;
     let mut walk = Checker::new();
-    let mut rest = bytes;
+    let mut rest = bytes.as_slice();
     let mut lawful = 0u32;
     for pair in 0..200u32 {
-        let Some(reply) = take_blanked(rest, command) else {
-            return (lawful, pair);
+        let Some((head, behind)) = take_blanked(rest, &mut command) else {
+            return Ok((lawful, pair));
         };
-        let Some((head, behind)) = take_head(reply) else {
-            return (lawful, pair);
-        };
-        if let Some(told) = reply_head(head) {
-            if walk.step(command, &told) {
-                lawful = lawful.wrapping_add(1);
-            }
+        if goes_on(&mut walk, &command, head) {
+            lawful = lawful.wrapping_add(1);
         }
         rest = behind;
     }
-    (lawful, 200)
+    Ok((lawful, 200))
 }
 
 #[test]
 fn entered_bytes_may_be_blanked(rt: HostRuntime) -> Result<(), Fail> {
-    let mut command = Command::new(rt.alloc())?;
-    assert_eq!(rt; blanked(dialogue(), &mut command), (38, 38));
-    assert_eq!(rt; blanked(keys(), &mut command), (55, 55));
-    assert_eq!(rt; blanked(numbered(), &mut command), (22, 22));
-    assert_eq!(rt; blanked(periods(), &mut command), (45, 45));
-    Ok(())
-}
-
-#[test]
-fn the_dialogue_of_the_manual_is_judged(rt: HostRuntime) -> Result<(), Fail> {
-    let (mut command, mut ahead) = (Command::new(rt.alloc())?, Command::new(rt.alloc())?);
-    assert_eq!(rt;
-        misjudged(dialogue(), &DIALOGUE_ROWS, &mut command, &mut ahead),
-        (0, 0)
-    );
-    Ok(())
-}
-
-#[test]
-fn the_dialogue_with_keys_is_judged(rt: HostRuntime) -> Result<(), Fail> {
-    let (mut command, mut ahead) = (Command::new(rt.alloc())?, Command::new(rt.alloc())?);
-    assert_eq!(rt;
-        misjudged(keys(), &KEYS_ROWS, &mut command, &mut ahead),
-        (0, 0)
-    );
-    Ok(())
-}
-
-#[test]
-fn numbered_commands_are_judged(rt: HostRuntime) -> Result<(), Fail> {
-    let (mut command, mut ahead) = (Command::new(rt.alloc())?, Command::new(rt.alloc())?);
-    assert_eq!(rt;
-        misjudged(numbered(), &NUMBERED_ROWS, &mut command, &mut ahead),
-        (0, 0)
-    );
-    Ok(())
-}
-
-#[test]
-fn failures_are_judged(rt: HostRuntime) -> Result<(), Fail> {
-    let (mut command, mut ahead) = (Command::new(rt.alloc())?, Command::new(rt.alloc())?);
-    assert_eq!(rt;
-        misjudged(failures(), &FAILURES_ROWS, &mut command, &mut ahead),
-        (0, 0)
-    );
-    Ok(())
-}
-
-#[test]
-fn ends_of_periods_are_judged(rt: HostRuntime) -> Result<(), Fail> {
-    let (mut command, mut ahead) = (Command::new(rt.alloc())?, Command::new(rt.alloc())?);
-    assert_eq!(rt;
-        misjudged(periods(), &PERIODS_ROWS, &mut command, &mut ahead),
-        (0, 0)
-    );
+    let alloc = rt.alloc();
+    assert_eq!(rt; blanked(alloc, &DIALOGUE)?, (38, 38));
+    assert_eq!(rt; blanked(alloc, &KEYS)?, (55, 55));
+    assert_eq!(rt; blanked(alloc, &NUMBERED)?, (22, 22));
+    assert_eq!(rt; blanked(alloc, &PERIODS)?, (45, 45));
     Ok(())
 }

@@ -3,8 +3,10 @@
 //! A word of this program's own has the names of two files, parted by one space: a transcript, and rows of nine bytes. There is one check
 //! for each row: of so many bytes of the transcript, as its first four bytes tell, where the byte at a place, as the next four tell, has
 //! the value of the last. Behind what a check writes stands a line with the name of the transcript, these three numbers, and the exit
-//! status. Numbers are big-endian; a place behind the bytes changes none.
+//! status. Numbers are big-endian; a place behind the bytes changes none. How many bytes come at a time goes by the row's place in turn.
 #![tactic(auto)]
+
+ghost use Rattle.std.specs.Prelude.{◌<◌};
 
 use engine_core::Shipped;
 use module_top::run;
@@ -18,9 +20,6 @@ const LONGEST: usize = 1_048_576;
 
 // The bytes of a row.
 const ROW: usize = 9;
-
-// How many bytes of a transcript come at a time: no divisor of a frame's length, so that frames are cut anywhere.
-const STEP: usize = 61;
 
 const COULD_NOT_BEGIN: u8 = 255;
 
@@ -38,6 +37,19 @@ fn read_row(row: &[u8]) -> Option<Row> {
     }
 }
 
+// How many bytes of a transcript come at a time for the row at this place: mostly so many that frames are cut anywhere, and now and then
+// one, few, or as many as a buffer holds.
+fn step_at(place: usize) -> usize
+    ensures { 0 < result }
+{
+    match place % 16 {
+        1 => 1,
+        2 => 7,
+        3 => 4096,
+        _ => 61,
+    }
+}
+
 // The transcript that a row makes of this one. None where memory is wanting.
 fn changed(rt: &HostRuntime, transcript: &[u8], row: Row) -> Option<Vec<u8>> {
     let (length, place, value) = row;
@@ -48,8 +60,10 @@ fn changed(rt: &HostRuntime, transcript: &[u8], row: Row) -> Option<Vec<u8>> {
     Some(bytes)
 }
 
-// Checks a transcript, and answers the exit status. None where memory is wanting.
-fn check(rt: &HostRuntime, transcript: Vec<u8>) -> Option<u8> {
+// Checks a transcript of which so many bytes come at a time, and answers the exit status. None where memory is wanting.
+fn check(rt: &HostRuntime, transcript: Vec<u8>, step: usize) -> Option<u8>
+    requires { 0 < step }
+{
     let mut words = Vec::new(rt.alloc());
     words
         .push(String::from_str(rt.alloc(), "check").ok()?)
@@ -58,7 +72,7 @@ fn check(rt: &HostRuntime, transcript: Vec<u8>) -> Option<u8> {
         rt.alloc(),
         &words,
         &mut DiskFiles::new(rt),
-        &mut MemSource::new(transcript, STEP, Vec::new(rt.alloc())),
+        &mut MemSource::new(transcript, step, Vec::new(rt.alloc())),
         &mut StdSink::new(rt.stdout()),
         Shipped::new(),
     );
@@ -73,11 +87,11 @@ fn check_all(rt: &HostRuntime, description: &str) -> Option<()> {
     let rows = DiskFiles::new(rt)
         .load(rt.alloc(), names.next()?, LONGEST)
         .ok()?;
-    for bytes in rows.chunks(ROW) {
+    for (place, bytes) in rows.chunks(ROW).enumerate() {
         let row = read_row(bytes)?;
-        let status = check(rt, changed(rt, &transcript, row)?)?;
-        let (length, place, value) = row;
-        println!(rt; "{name} {length} {place} {value} {status}").ok()?;
+        let status = check(rt, changed(rt, &transcript, row)?, step_at(place))?;
+        let (length, changed_at, value) = row;
+        println!(rt; "{name} {length} {changed_at} {value} {status}").ok()?;
     }
     Some(())
 }

@@ -4,12 +4,12 @@ use Rattle.std.proofs.lemmas.Bool.{cases_lt}
 use Rattle.std.proofs.lemmas.List.{append-nil, map-append}
 use Rattle.module_frames.specs.PublicState.{unpowered}
 use Rattle.stream_calls.specs.declared.limits.TheConstants.{STREAM_MAX}
-use Rattle.transcript_check.specs.PairStreams.{ParsesIntoPairs, Recorded, ShowsFault, ShowsNoFault}
 use Rattle.transcript_check.specs.Transcripts.{IsFirstUnlawful, IsLawful, Pair}
-use Rattle.transcript_check.proofs.PairParsing.{pairs_one_way}
 use Rattle.transcript_check.proofs.Walks.{not_both}
+use Rattle.transcript_pairs.specs.PairStreams.{ParsesIntoPairs, Recorded, ShowsFault, ShowsNoFault, pairs_of}
+use Rattle.transcript_pairs.proofs.PairParsing.{pairs_one_way}
 use Rattle.transcript_report.specs.Laws.{HasOneVerdict, LawfulTells, UnlawfulTells}
-use Rattle.transcript_report.specs.Verdicts.{ComesTo, ShowsUnlawful, lawful_text, pair_text, pairs_of}
+use Rattle.transcript_report.specs.Verdicts.{ComesTo, ShowsUnlawful, lawful_text, pair_text}
 use Rattle.transcript_report.specs.declared.checking.Checked.{Checked}
 use Rattle.transcript_report.specs.declared.checking.Checked.TheVariants as checked
 use Rattle.transcript_report.proofs.FirstUnlawful.{first_one, first_stays}

@@ -7,12 +7,12 @@ use Rattle.module_frames.specs.CommandFrames.{command_encoding}
 use Rattle.module_frames.specs.PublicState.{unpowered}
 use Rattle.module_frames.specs.declared.public_state.PublicState.{PublicState}
 use Rattle.transcript_check.specs.Checking.{Answers, AnswersFrom}
-use Rattle.transcript_check.specs.PairStreams.{FeedsPair, HasCome, HeldPair, IsRecorded, IsWholePair, ParsesIntoPairs, Recorded, cleared_pair, held_length, new_pair, pair_encoding}
 use Rattle.transcript_check.specs.Transcripts.{Leads, Pair}
-use Rattle.transcript_check.specs.declared.pairs.PairFed.TheVariants as fed
 use Rattle.transcript_check.proofs.Walks.{walk_on}
+use Rattle.transcript_pairs.specs.PairStreams.{FeedsPair, HasCome, HeldPair, IsRecorded, IsWholePair, ParsesIntoPairs, Recorded, cleared_pair, held_length, new_pair, pair_encoding, pairs_of}
+use Rattle.transcript_pairs.specs.declared.pairs.PairFed.TheVariants as fed
 use Rattle.transcript_report.specs.Progress.{AnswersPair, CheckedSoFar}
-use Rattle.transcript_report.specs.Verdicts.{ShowsBadFrame, ShowsUnlawful, pairs_of}
+use Rattle.transcript_report.specs.Verdicts.{ShowsBadFrame, ShowsUnlawful}
 use Rattle.transcript_report.proofs.PairFaults.{nothing_is_sound}
 use Rattle.transcript_report.proofs.PairSplits.{nothing_parses, parsed_more, parsed_pair}
 

@@ -6,11 +6,11 @@ use Rattle.module_frames.specs.Streams.{first_fault}
 use Rattle.module_frames.proofs.CommandEncodings.{broken_begins_none, first_fault-encoding}
 use Rattle.module_frames.proofs.Headers.{fault_stays, first_fault-nil}
 use Rattle.module_frames.proofs.Parsing.{no_prefix}
-use Rattle.transcript_check.specs.PairStreams.{BeginsNoPair, ShowsFault, ShowsNoFault}
-use Rattle.transcript_check.specs.ReplyStreams.{reply_encoding, reply_fault}
-use Rattle.transcript_check.proofs.PairFeeding.{no_pair}
-use Rattle.transcript_check.proofs.ReplyEncodings.{broken_begins_none as broken_begins_no_reply}
-use Rattle.transcript_check.proofs.ReplyFaults.{fault_stays as reply_fault_stays}
+use Rattle.transcript_pairs.specs.PairStreams.{BeginsNoPair, ShowsFault, ShowsNoFault}
+use Rattle.transcript_pairs.specs.ReplyStreams.{reply_encoding, reply_fault}
+use Rattle.transcript_pairs.proofs.PairFeeding.{no_pair}
+use Rattle.transcript_pairs.proofs.ReplyEncodings.{broken_begins_none as broken_begins_no_reply}
+use Rattle.transcript_pairs.proofs.ReplyFaults.{fault_stays as reply_fault_stays}
 use Rattle.transcript_report.specs.Verdicts.{ShowsBadFrame}
 use Rattle.transcript_report.proofs.PairSplits.{parsed_more}
 

@@ -8,8 +8,8 @@ use Rattle.module_frames.specs.ReplyHeads.{head_encoding}
 use Rattle.module_frames.specs.declared.head.ReplyHead.{ReplyHead}
 use Rattle.module_frames.proofs.Heads.{one_way}
 use Rattle.module_frames.proofs.Parsing.{no_prefix}
-use Rattle.transcript_check.specs.PairStreams.{BeginsNoPair, IsRecorded, ParsesIntoPairs, Recorded, pair_encoding}
-use Rattle.transcript_check.specs.ReplyStreams.{reply_encoding}
+use Rattle.transcript_pairs.specs.PairStreams.{BeginsNoPair, IsRecorded, ParsesIntoPairs, Recorded, pair_encoding}
+use Rattle.transcript_pairs.specs.ReplyStreams.{reply_encoding}
 
 same_recorded : (command command' : CommandFrame) (reply reply' : ReplyHead) (payload payload' : List ℕ) → command ≡ command' → reply ≡ reply' → payload ≡ payload'
     → Path Recorded (record { pair = record { command = command; reply = reply }; payload = payload }) (record { pair = record { command = command'; reply = reply' }; payload = payload' })

@@ -5,7 +5,7 @@ use Rattle.module_frames.specs.declared.public_state.PublicState.{PublicState}
 use Rattle.outside.specs.Contents.{Consumes, IsAtEnd}
 use Rattle.stream_calls.specs.Streams.{IsAllOf}
 use Rattle.stream_calls.specs.declared.limits.TheConstants.{STREAM_MAX}
-use Rattle.transcript_check.specs.PairStreams.{HeldPair, held_length}
+use Rattle.transcript_pairs.specs.PairStreams.{HeldPair, held_length}
 use Rattle.transcript_report.specs.Checks.{AskedNoFurther, IsReadToEnd, VerdictReached}
 use Rattle.transcript_report.specs.Progress.{CheckedSoFar, ReadCutOff}
 use Rattle.transcript_report.specs.Verdicts.{IsLawfulSoFar, ShowsBadFrame, ShowsUnlawful, lawful_text, pair_text}

@@ -5,7 +5,7 @@ use Rattle.outside.specs.Faults.{FaultCounted}
 use Rattle.stream_calls.specs.PartialWrites.{AppendsPart}
 use Rattle.stream_calls.specs.Streams.{Streams, IsAllOf}
 use Rattle.stream_calls.specs.declared.limits.TheConstants.{STREAM_MAX}
-use Rattle.transcript_check.specs.PairStreams.{Recorded}
+use Rattle.transcript_pairs.specs.PairStreams.{Recorded}
 use Rattle.transcript_report.specs.Verdicts.{IsLawfulSoFar, ComesTo}
 use Rattle.transcript_report.specs.declared.checking.Checked.{Checked}
 use Rattle.transcript_report.specs.declared.checking.Checked.TheVariants as checked

@@ -2,9 +2,9 @@
 use Rattle.std.specs.Prelude.{◌≡◌, ◌<◌, ◌↔◌, ℕ, List, [], length}
 use Rattle.module_frames.specs.PublicState.{unpowered}
 use Rattle.stream_calls.specs.declared.limits.TheConstants.{STREAM_MAX}
-use Rattle.transcript_check.specs.PairStreams.{Recorded, ParsesIntoPairs}
 use Rattle.transcript_check.specs.Transcripts.{IsLawful, IsFirstUnlawful}
-use Rattle.transcript_report.specs.Verdicts.{IsVerdict, pairs_of, lawful_text, pair_text}
+use Rattle.transcript_pairs.specs.PairStreams.{Recorded, ParsesIntoPairs, pairs_of}
+use Rattle.transcript_report.specs.Verdicts.{IsVerdict, lawful_text, pair_text}
 use Rattle.transcript_report.specs.declared.checking.Checked.{Checked}
 use Rattle.transcript_report.specs.declared.checking.Checked.TheVariants as checked
 

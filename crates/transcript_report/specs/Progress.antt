@@ -4,10 +4,10 @@ use Rattle.outside.specs.Contents.{Consumes}
 use Rattle.module_frames.specs.PublicState.{unpowered}
 use Rattle.module_frames.specs.declared.public_state.PublicState.{PublicState}
 use Rattle.stream_calls.specs.declared.limits.TheConstants.{STREAM_MAX}
-use Rattle.transcript_check.specs.PairStreams.{HasCome, HeldPair, IsWholePair, ParsesIntoPairs, Recorded, ShowsNoFault}
 use Rattle.transcript_check.specs.Transcripts.{Pair, IsWalk}
 use Rattle.transcript_check.specs.Checking.{Answers}
-use Rattle.transcript_report.specs.Verdicts.{IsLawfulSoFar, pairs_of, lawful_text, pair_text}
+use Rattle.transcript_pairs.specs.PairStreams.{HasCome, HeldPair, IsWholePair, ParsesIntoPairs, Recorded, ShowsNoFault, pairs_of}
+use Rattle.transcript_report.specs.Verdicts.{IsLawfulSoFar, lawful_text, pair_text}
 use Rattle.transcript_report.specs.declared.checking.Checked.{Checked}
 use Rattle.transcript_report.specs.declared.checking.Checked.TheVariants as checked
 

@@ -1,9 +1,9 @@
 -- The verdict on the bytes of a transcript, and its text (a form of this project's own).
-use Rattle.std.specs.Prelude.{◌≡◌, ◌≢◌, ◌≤◌, ◌<◌, ◌+◌, ◌++◌, ℕ, Bool, true, false, List, [], length, take, map, codes, decimal}
+use Rattle.std.specs.Prelude.{◌≡◌, ◌≢◌, ◌≤◌, ◌<◌, ◌+◌, ◌++◌, ℕ, Bool, true, false, List, [], length, take, codes, decimal}
 use Rattle.module_frames.specs.PublicState.{unpowered}
 use Rattle.stream_calls.specs.declared.limits.TheConstants.{STREAM_MAX}
-use Rattle.transcript_check.specs.PairStreams.{Recorded, ParsesIntoPairs, ShowsFault, ShowsNoFault}
-use Rattle.transcript_check.specs.Transcripts.{Pair, IsLawful, IsFirstUnlawful}
+use Rattle.transcript_check.specs.Transcripts.{IsLawful, IsFirstUnlawful}
+use Rattle.transcript_pairs.specs.PairStreams.{Recorded, ParsesIntoPairs, ShowsFault, ShowsNoFault, pairs_of}
 use Rattle.transcript_report.specs.declared.checking.Checked.{Checked}
 use Rattle.transcript_report.specs.declared.checking.Checked.TheVariants as checked
 
@@ -14,10 +14,6 @@ lawful_text count = codes "lawful " ++ (decimal count ++ codes "\n")
 -- what is written where the pair of this number is the first that isn't lawful
 abbrev pub pair_text : ℕ → List ℕ
 pair_text number = codes "pair " ++ (decimal number ++ codes "\n")
-
--- the commands and the heads of the replies, without the payloads
-abbrev pub pairs_of : List Recorded → List Pair
-pairs_of recorded = map (λ (r : Recorded). r.pair) recorded
 
 -- the bytes parse into these pairs, which are lawful, and this remainder, which shows no fault
 pub record IsLawfulSoFar (bytes : List ℕ) (recorded : List Recorded) (remainder : List ℕ) : Type 0 where

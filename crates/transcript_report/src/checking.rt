@@ -1,6 +1,6 @@
 // The verdict on a source's transcript.
 ghost use Rattle.std.specs.Prelude.{◌≡◌, ◌≢◌, ◌<◌, ◌++◌, ℕ, List, Some, None, [], length, replicate};
-ghost use Rattle.transcript_check.specs.PairStreams.{new_pair};
+ghost use Rattle.transcript_pairs.specs.PairStreams.{new_pair};
 ghost use Rattle.transcript_report.specs.Verdicts.{IsVerdict};
 ghost use Rattle.transcript_report.specs.Checks.{Checks, ReadsLeft, VerdictReached, WritesLeft};
 ghost use Rattle.transcript_report.specs.Progress.{ReadCutOff, text_of};
@@ -9,7 +9,8 @@ use crate::chunks::{ChunkEnd, check_chunk};
 use crate::text::write_text;
 use outside::{Sink, Source};
 use stream_calls::{STREAM_MAX, read_some};
-use transcript_check::{Checker, Pairs};
+use transcript_check::Checker;
+use transcript_pairs::Pairs;
 
 /// How the check of a transcript ended.
 #[derive(Clone, Copy, Debug, PartialEq, Eq)]

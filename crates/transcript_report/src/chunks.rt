@@ -1,10 +1,11 @@
 // The pairs of a chunk.
 ghost use Rattle.std.specs.Prelude.{◌≡◌, ◌≤◌, ◌+◌, ◌++◌, ◌^◌, ℕ, List, length};
-ghost use Rattle.transcript_check.specs.PairStreams.{HoldsPair, cleared_pair, held_length};
+ghost use Rattle.transcript_pairs.specs.PairStreams.{HoldsPair, cleared_pair, held_length};
 ghost use Rattle.transcript_report.specs.Progress.{AnswersPair, CheckedSoFar};
 ghost use Rattle.transcript_report.specs.Verdicts.{ShowsBadFrame, ShowsUnlawful};
 
-use transcript_check::{Checker, PairFed, Pairs};
+use transcript_check::Checker;
+use transcript_pairs::{PairFed, Pairs};
 
 /// What became of a chunk.
 #[derive(Clone, Copy, Debug, PartialEq, Eq)]

@@ -8,7 +8,7 @@ use outside::{MemSink, MemSource};
 use rows::Row;
 use std::alloc::Global;
 use std::test::Fail;
-use transcript_check::Pairs;
+use transcript_pairs::Pairs;
 
 // How the check of a source ends, and what is written.
 fn checked(
@@ -69,8 +69,6 @@ fn are_checked(alloc: Global, transcript: &[u8], rows: &[Row]) -> Result<bool, F
 fn transcripts_have_their_verdict(rt: HostRuntime) -> Result<(), Fail> {
     let alloc = rt.alloc();
     assert!(rt; are_checked(alloc, rows::woven(), rows::woven_rows())?);
-    assert!(rt; are_checked(alloc, rows::dialogue(), rows::dialogue_rows())?);
-    assert!(rt; are_checked(alloc, rows::numbered(), rows::numbered_rows())?);
     Ok(())
 }
 

@@ -1,5 +1,5 @@
 use Rattle.std.proofs.Common.{refl}
-use Rattle.module_top.specs.Forms.{Check}
+use Rattle.program_words.specs.Forms.{Check}
 use Rattle.module_top.proofs.RunOutcomes.{no_memory}
 use Rattle.module_top.proofs.TranscriptOutcomes.{transcript_checked}
 use Rattle.module_top.proofs.checking.check_pairs.Goals as goal

@@ -1,5 +1,5 @@
 use Rattle.std.proofs.Common.{refl}
-use Rattle.module_top.specs.Forms.{Vectors}
+use Rattle.program_words.specs.Forms.{Vectors}
 use Rattle.module_top.proofs.RunOutcomes.{no_memory}
 use Rattle.module_top.proofs.ReportOutcomes.{vectors_reported}
 use Rattle.module_top.proofs.reporting.check_vectors.Goals as goal

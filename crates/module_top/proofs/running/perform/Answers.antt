@@ -1,7 +1,7 @@
 use Rattle.std.proofs.Common.{◌≡◌, Some, sym, ap, ◌∙◌}
 use Rattle.std.specs.Prelude.{map}
 use Rattle.std.specs.String.{string_bytes}
-use Rattle.module_top.specs.Forms.{Check, Vectors, form_of, form_value}
+use Rattle.program_words.specs.Forms.{Check, Vectors, form_of, form_value}
 use Rattle.module_top.proofs.running.perform.Goals as goal
 
 pub returns-in-Some-Vectors-clause-outcome : goal.returns-in-Some-Vectors-clause-outcome

@@ -1,7 +1,7 @@
 use Rattle.std.proofs.Common.{◌≡◌, ◌≢◌, ◌++◌, ℕ, List, Some, IfSome, refl, sym, ◌∙◌, ap, subst}
 use Rattle.std.specs.Prelude.{◌↔◌, map}
 use Rattle.std.specs.String.{string_bytes}
-use Rattle.module_top.specs.Forms.{form_of}
+use Rattle.program_words.specs.Forms.{form_of}
 use Rattle.module_top.specs.Program.{IsProgramOutput}
 use Rattle.module_top.specs.Outcomes.{HasLongImage, HasBadDigest}
 use Rattle.module_top.specs.Secrets.{OutputKeepsSecrets}

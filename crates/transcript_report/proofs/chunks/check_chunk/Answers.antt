@@ -1,7 +1,7 @@
 use Rattle.std.proofs.Common.{◌≡◌, ◌+◌, ◌++◌, ℕ, List, take, drop, length, ap, subst, arith, length-drop, length-append}
 use Rattle.std.proofs.lemmas.List.{take_rest, length-take-le}
-use Rattle.transcript_check.specs.PairStreams.{FeedsPair}
-use Rattle.transcript_check.specs.declared.pairs.PairFed.TheVariants as fed
+use Rattle.transcript_pairs.specs.PairStreams.{FeedsPair}
+use Rattle.transcript_pairs.specs.declared.pairs.PairFed.TheVariants as fed
 use Rattle.transcript_report.specs.Progress.{CheckedSoFar}
 use Rattle.transcript_report.specs.Verdicts.{ShowsBadFrame, ShowsUnlawful}
 use Rattle.transcript_report.proofs.PairChecks.{checked_more, checked_pair, held_place, joined_more, joined_rest, shown_fault, shown_unlawful, some_taken, taken_within}

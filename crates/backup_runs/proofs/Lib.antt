@@ -1,0 +1,3 @@
+mod Through
+pub mod BackupRuns
+pub mod RestoredRuns

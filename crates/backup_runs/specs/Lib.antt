@@ -1,0 +1,5 @@
+pub mod TwoKeys
+pub mod Stepping
+pub mod BackingUp
+pub mod Officer
+pub mod Restoring

@@ -1,0 +1,3 @@
+pub mod WorkOutcomes
+pub mod WorkRuns
+pub mod OneWork

@@ -1,0 +1,16 @@
+use Rattle.std.proofs.Common.{◌≡◌, ℕ, ap, subst, length, ◌∙◌}
+use Rattle.std.proofs.lemmas.List.{length-replicate}
+use Rattle.outside.specs.Explained.{Explained}
+use Rattle.state_model.specs.MachineState.{initial_state}
+use Rattle.command_serving.specs.FrameGrammar.{frame_grammar}
+use Rattle.command_serving.specs.Serving.{Serves}
+use Rattle.module_works.proofs.frames_work.open_and_serve.Goals as goal
+
+pub returns-clause-served : goal.returns-clause-served
+returns-clause-served g c =
+    let long : length c.deref_mut.result.now ≡ 65536 = ap length c.deref_mut.ensures.value ∙ ap length (c.in_ok-chunk.ensures.items_if_clones_equal (λ y h. h)) ∙ length-replicate {A = ℕ} 65536 0 in
+    let s = initial_state c.args.engine c.args.image.items c.args.digest in
+    let By : ℕ → Type 0 = λ n. Explained (g.N.Noise.left c.args.noise.now) (g.N.Noise.left c.serve-ended.new.noise) (Serves frame_grammar g.E.Engine.calls c.serve-ended.result n s c.serve-ended.new.module
+    (record { left = g.S.Source.left c.args.commands.now; gained = g.K.Sink.gained c.args.replies.now })
+    (record { left = g.S.Source.left c.serve-ended.new.commands; gained = g.K.Sink.gained c.serve-ended.new.replies })) in
+    (c.serve-ended.new.module, subst By long (c.serve-ended.ensures.served s c.in_ok-module.ensures.represents))

@@ -1,0 +1,16 @@
+use Rattle.state_model.specs.MachineState.{initial_state}
+use Rattle.program_words.specs.declared.words.Work.TheVariants as work
+use Rattle.module_works.proofs.WorkOutcomes.{no_work, frames_served}
+use Rattle.module_works.proofs.frames_work.serve_frames.Goals as goal
+
+pub returns-in-Ok : goal.returns-in-Ok
+returns-in-Ok g c =
+    let served = c.in-Ok.ensures.served in record {
+      outcome = λ keys backup. frames_served keys backup g.E.Engine.calls _ c.in-Ok.ended _ _ _ served.0 _ _ c.result_of.ensures served.1
+          c.in-Ok.ensures.read_fault c.in-Ok.ensures.reads_unchanged c.in-Ok.ensures.write_fault c.in-Ok.ensures.writes_unchanged;
+    }
+
+pub returns-in-Err : goal.returns-in-Err
+returns-in-Err g c = record {
+  outcome = λ keys backup. rw (c.in-Err.ensures.untouched.0, c.in-Err.ensures.untouched.1) (no_work work.Serve keys backup g.E.Engine.calls (initial_state c.args.engine c.args.image.items c.args.digest) _ _ _);
+}

@@ -1,0 +1,2 @@
+pub mod WorkOutcomes
+pub mod Works

@@ -1,0 +1,3 @@
+pub mod DigestFile
+pub mod Faults
+pub mod Forms

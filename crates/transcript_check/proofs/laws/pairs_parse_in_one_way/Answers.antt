@@ -1,5 +1,0 @@
-use Rattle.transcript_check.proofs.PairParsing.{pairs_one_way}
-use Rattle.transcript_check.proofs.laws.pairs_parse_in_one_way.Goals as goal
-
-pub returns : goal.returns
-returns c = pairs_one_way

@@ -1,5 +1,0 @@
-use Rattle.transcript_check.proofs.HeldPairs.{new_reader}
-use Rattle.transcript_check.proofs.pairs.Pairs.new.Goals as goal
-
-pub invariant_of-result : goal.invariant_of-result
-invariant_of-result c = rw (c.in_ok-frames.ensures.new, c.new-2.ensures) new_reader

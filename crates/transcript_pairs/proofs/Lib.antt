@@ -1,0 +1,5 @@
+pub mod ReplyEncodings
+pub mod ReplyFaults
+pub mod HeldPairs
+pub mod PairFeeding
+pub mod PairParsing

@@ -1,0 +1,4 @@
+pub mod ReplyStreams
+pub mod PairStreams
+pub mod PairSteps
+pub mod Laws
