@@ -3,39 +3,32 @@ import hashlib
 import hmac
 import struct
 
-from cryptography.hazmat.primitives.ciphers import Cipher, algorithms, modes
-from cryptography.hazmat.primitives.keywrap import aes_key_wrap_with_padding
+import machine_backups
+from machine_bodies import APPROVED, OTHER, Kind, fits
+from machine_functions import aes, wrap
 
 KEK = bytes(range(32))
 MAC = bytes(range(32, 64))
-AES, KEY_KEK, MAC_KIND, KDF = 1, 2, 3, 4
-OTHER, APPROVED = 0, 1
+AES, KEY_KEK, MAC_KIND, KDF = Kind
 
 
 def record(slot, kind, domain, uses, text, size=None, wrapped=None):
     """The record of a slot; the length and the wrapped part may be others than the text's."""
-    head = bytes([slot, kind, domain]) + struct.pack(">I", uses) + bytes([len(text) if size is None else size])
-    return head + (aes_key_wrap_with_padding(KEK, text) if wrapped is None else wrapped)
+    size, wrapped = len(text) if size is None else size, wrap(True, KEK, text) if wrapped is None else wrapped
+    return machine_backups.record(slot, kind, domain, uses, size, wrapped)
 
 
-def signed(front, mac=MAC):
-    return front + hmac.new(mac, front, hashlib.sha256).digest()
+def signed(front):
+    return machine_backups.signed(MAC, front)
 
 
-def backup(records, count=None, magic=b"SMB1", more=b"", mac=MAC):
-    return signed(magic + bytes([len(records) if count is None else count]) + b"".join(records) + more, mac)
+def backup(records, **others):
+    return machine_backups.joined(MAC, records, **others)
 
 
 def one_block(front, text, padding):
     """What is padded otherwise than with zeros: one block under the key-encryption key."""
-    encryptor = Cipher(algorithms.AES(KEK), modes.ECB()).encryptor()
-    return encryptor.update(front + struct.pack(">I", len(text)) + text + padding) + encryptor.finalize()
-
-
-def fits(kind, domain, length):
-    if kind in (AES, KEY_KEK):
-        return length in (16, 24, 32)
-    return (14 if domain == APPROVED else 1) <= length <= 64
+    return aes(KEK, front + struct.pack(">I", len(text)) + text + padding)
 
 
 def text_of(kind, domain, length):

@@ -22,7 +22,7 @@ RECORD, CLIENT = (os.path.join(TOP, "examples", name) for name in ("record.py", 
 KEY = b"the key that nobody is to find.."
 TEXTS = {0: b"", 3: b"bad frame\n", 4: b"truncated frame\n", 5: b"read failed\n", 6: b"write failed\n", 16: b"not lawful\n"}
 CHUNK = 65_536
-USAGE = b"usage: serve, operate, digest, session, vectors or check\n"
+USAGE = b"usage: serve, operate, digest, session, vectors, backup, restore or check\n"
 ROOM = tempfile.TemporaryDirectory()
 
 

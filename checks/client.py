@@ -223,7 +223,7 @@ STUCK = [
 EMPTY_DIGEST = b"d38b42096d80f45f826b44a9d5607de72496a415d3f4a1a8c88e3bb9da8dc1cb\n"
 ZEROS_DIGEST = b"e7e5b3b173eaad5deb4c69c43c9501be552e11f55b87229d4d4e3d343877ed85\n"
 
-USAGE = b"usage: serve, operate, digest, session, vectors or check\n"
+USAGE = b"usage: serve, operate, digest, session, vectors, backup, restore or check\n"
 BAD_FRAME = b"bad frame\n"
 TRUNCATED = b"truncated frame\n"
 READ_FAILED = b"read failed\n"

@@ -4,15 +4,19 @@ manual doesn't have, or memory that grows is a failure. What it answers isn't lo
 
 usage: fuzz.py PROGRAM [FIRST [COUNT]]
 
-A number makes one input, for `serve`, `operate`, `vectors` or `check` by turns. It is a stored stream of dialogue_program,
-line_program or transcript_program of which bits are turned, or whose frames or lines are left out, doubled and exchanged, or which is cut
-or joined to another one; or random bytes. Statuses and texts are those of the table in docs/INTERFACE.md, by the words that a row names.
+A number makes one input, for `serve`, `operate`, `vectors`, `check`, `backup` or `restore` by turns. It is a stored stream of
+dialogue_program, line_program, transcript_program or backup_program of which bits are turned, or whose frames or lines are left out,
+doubled and exchanged, or which is cut or joined to another one; or random bytes. For `restore` it is such lines behind a right backup, or
+a stored backup that was changed likewise, and every second time is given the tag that fits its bytes. Statuses and texts are those of
+the table in docs/INTERFACE.md, by the words that a row names.
 Before its input is written a run may take no more address space than one that waits for its first byte has and a little, so a run that
 takes memory later finds none, and ends with another status. (A child's peak as the system counts it would have that of Python.)
 
 Each of these was tried, and inputs 1 to 60 told it: row 3 or row 10 left out of the table, the text of row 4 changed, and in the program's
 place one that ends by a signal at a byte `ff`, and one that takes 1 MiB after its first bytes.
 """
+import hashlib
+import hmac
 import os
 import random
 import re
@@ -27,13 +31,20 @@ from concurrent.futures import ThreadPoolExecutor
 HERE = os.path.dirname(os.path.abspath(__file__))
 TOP = os.path.join(HERE, "..")
 MANUAL = os.path.join(TOP, "docs", "INTERFACE.md")
-DIALOGUES, LINES, TRANSCRIPTS = (os.path.join(TOP, "crates", f"{name}_program", "data") for name in ("dialogue", "line", "transcript"))
+DIALOGUES, LINES, TRANSCRIPTS, BACKUPS = (
+    os.path.join(TOP, "crates", f"{name}_program", "data") for name in ("dialogue", "line", "transcript", "backup")
+)
 # A run may take so many seconds of a processor, and so many in all, since the machine may be busy.
 SECONDS, PATIENCE = 10, 60
 AT_A_TIME = 2
 # The largest stream of the corpus: larger ones take long and are cut into the same frames.
 LARGEST = 12_000
 SEPARATOR = b"\x1e"
+# The runs of `restore` whose input is the backup, and the lines that follow then.
+OF_BACKUPS, FOLLOWING = "restore of a backup", b"slot 2\nstatus\n"
+TAG = 32
+# The statuses of `restore` that can't come where the image and the noise are right, and the backup or the lines are.
+NEVER = {"restore": (14, 15), OF_BACKUPS: (10, 14)}
 # What a run may take beside what it has as it waits for its first byte.
 LITTLE = 64 * 1024
 
@@ -85,6 +96,26 @@ def lines(stream):
     return stream.splitlines(keepends=True) or [b""]
 
 
+def records(backup):
+    """The front of a backup, its records, and what stands behind the last whole one."""
+    cut, rest = [backup[:5]], backup[5:]
+    while len(rest) >= 8 + TAG:
+        end = 16 + (rest[7] + 7) // 8 * 8
+        cut.append(rest[:end])
+        rest = rest[end:]
+    return cut + [rest]
+
+
+def parted(stored):
+    """The backups of a file, each of which stands behind its length in two bytes."""
+    found = []
+    while stored:
+        end = 2 + int.from_bytes(stored[:2], "big")
+        found.append(stored[2:end])
+        stored = stored[end:]
+    return found
+
+
 def described(crate):
     """The words of each line that describes stored runs."""
     return [line.split(" ") for line in content(os.path.join(TOP, "crates", crate, "args")).decode().splitlines()]
@@ -92,12 +123,17 @@ def described(crate):
 
 def corpus(word):
     """The stored streams for a word: (what cuts them into parts, the streams)."""
+    if word == OF_BACKUPS:
+        names = dict.fromkeys(words[3] for words in described("backup_program") if words[1:2] == ["restore"] and len(words) > 3)
+        paths = [os.path.join(BACKUPS, name) for name in names]
+        return records, [backup for path in paths if os.path.exists(path) for backup in parted(content(path))]
     if word == "serve":
         cut, paths = frames, [os.path.join(DIALOGUES, words[0]) for words in described("dialogue_program")]
     elif word == "check":
         cut, paths = recorded, [os.path.join(TRANSCRIPTS, words[0]) for words in described("transcript_program")]
     else:
-        cut, paths = lines, [os.path.join(LINES, words[0]) for words in described("line_program") if words[1:2] == [word]]
+        crate, folder = ("backup_program", BACKUPS) if word in ("backup", "restore") else ("line_program", LINES)
+        cut, paths = lines, [os.path.join(folder, words[0]) for words in described(crate) if words[1:2] == [word]]
     streams = [stream for path in dict.fromkeys(paths) for stream in (content(path).split(SEPARATOR) if cut == lines else [content(path)])]
     return cut, [stream for stream in streams if len(stream) <= LARGEST]
 
@@ -159,7 +195,13 @@ def made(number, kinds):
     stream = rng.choice(streams)
     for _ in range(rng.randint(1, 4)):
         stream = rng.choice(CHANGES)(rng, stream, cut, rng.choice(streams))
-    return word, stream
+    return word, tagged(stream) if cut == records and rng.random() < 0.5 else stream
+
+
+def tagged(backup):
+    """With the tag of the bytes before it, under the second half of the keys."""
+    mac = content(os.path.join(BACKUPS, "keys"))[32:]
+    return backup[:-TAG] + hmac.new(mac, backup[:-TAG], hashlib.sha256).digest()
 
 
 class Runner:
@@ -167,18 +209,30 @@ class Runner:
         named = [os.path.join(DIALOGUES, name) for name in ("image", "digest", "noise")]
         self.words = {word: [program, word, *named] for word in ("serve", "operate")}
         self.words |= {word: [program, word] for word in ("vectors", "check")}
-        self.texts = {word: table(word) for word in self.words}
+        keys, self.room = os.path.join(BACKUPS, "keys"), tempfile.TemporaryDirectory()
+        right = self.in_room("right", parted(content(os.path.join(BACKUPS, "one_slot_kept")))[0])
+        self.words |= {"backup": [program, "backup", keys, *named], "restore": [program, "restore", keys, right, *named]}
+        self.words[OF_BACKUPS] = self.words["restore"]
+        self.texts = {word: table(words[1]) for word, words in self.words.items()}
+        for word, never in NEVER.items():
+            self.texts[word] = {status: text for status, text in self.texts[word].items() if status not in never}
         self.most = {word: self.space(word) + LITTLE for word in self.words}
 
-    def begun(self, word, output):
+    def in_room(self, name, written):
+        path = os.path.join(self.room.name, name)
+        with open(path, "wb") as file:
+            file.write(written)
+        return path
+
+    def begun(self, words, output):
         # Replies go to a file, so that nobody has to read them while the input is written.
-        process = subprocess.Popen(self.words[word], stdin=subprocess.PIPE, stdout=output, stderr=subprocess.PIPE)
+        process = subprocess.Popen(words, stdin=subprocess.PIPE, stdout=output, stderr=subprocess.PIPE)
         resource.prlimit(process.pid, resource.RLIMIT_CPU, (SECONDS, SECONDS))
         return process
 
     def space(self, word):
         """The address space of a run that waits for its first byte."""
-        with self.begun(word, subprocess.DEVNULL) as process:
+        with self.begun(self.words[word], subprocess.DEVNULL) as process:
             seen, still = 0, 0
             while still < 20:
                 time.sleep(0.01)
@@ -188,8 +242,11 @@ class Runner:
             process.stdin.close()
         return seen
 
-    def run(self, word, stream):
-        with tempfile.TemporaryFile() as output, self.begun(word, output) as process:
+    def run(self, word, stream, number):
+        words = self.words[word]
+        if word == OF_BACKUPS:
+            words, stream = [*words[:3], self.in_room(str(number), stream), *words[4:]], FOLLOWING
+        with tempfile.TemporaryFile() as output, self.begun(words, output) as process:
             resource.prlimit(process.pid, resource.RLIMIT_AS, (self.most[word], self.most[word]))
             try:
                 _, text = process.communicate(stream, timeout=PATIENCE)
@@ -219,7 +276,7 @@ def main(program, first=1, count=1_000):
     def try_one(number):
         word, stream = made(number, kinds)
         try:
-            return word, runner.run(word, stream)
+            return word, runner.run(word, stream, number)
         except Wrong as wrong:
             raise Wrong(f"input {number}, for {word}: {wrong}; python3 -B checks/fuzz.py {program} {number} 1") from None
 

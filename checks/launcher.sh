@@ -39,7 +39,8 @@ done
 copy=$room/copy/warlinden
 bare=(env "PATH=$room/bin")
 for words in '' frobnicate 'demo demo' 'build now' Serve serve 'serve image digest' 'serve a b c d' digest 'digest a b' \
-    Try 'try it' operate 'operate image digest' 'operate a b c d' session 'session 7 0 image digest' 'session 7 0 a b c d' 'vectors now' Check 'check transcript'; do
+    Try 'try it' operate 'operate image digest' 'operate a b c d' session 'session 7 0 image digest' 'session 7 0 a b c d' 'vectors now' Check 'check transcript' \
+    backup 'backup keys image digest' 'backup a b c d e' restore 'restore keys kept image digest' 'restore a b c d e f'; do
     # shellcheck disable=SC2086
     ends 2 - 'usage: warlinden' "${bare[@]}" "$copy" $words
 done
@@ -51,6 +52,8 @@ ends 127 - 'warlinden: .*no rt' "${bare[@]}" "$copy" operate image digest noise
 ends 127 - 'warlinden: .*no rt' "${bare[@]}" "$copy" session 7 0 image digest noise
 ends 127 - 'warlinden: .*no rt' "${bare[@]}" "$copy" vectors
 ends 127 - 'warlinden: .*no rt' "${bare[@]}" "$copy" check
+ends 127 - 'warlinden: .*no rt' "${bare[@]}" "$copy" backup keys image digest noise
+ends 127 - 'warlinden: .*no rt' "${bare[@]}" "$copy" restore keys kept image digest noise
 ends 127 - 'warlinden: .*no rt' "${bare[@]}" "$copy" digest image
 ends 127 - 'warlinden: .*no rt' "${bare[@]}" "$copy" try
 ends 127 - 'warlinden: .*no rt' "${bare[@]}" "$copy" build
@@ -87,7 +90,7 @@ input=bad_line ends 10 'Ok Off 0 0000 000000000000000000000000 -$' 'bad line$' "
 ends 11 - 'bad digest file' "$room/link" operate image image /dev/null
 ends 0 'commands 11$' - "$room/link" session 7 0 image digest /dev/zero
 [ "$(tail -n 2 out | head -n 1)" = 'state Error' ] || fail 'a session over noise without end that is stuck did not end in Error'
-ends 2 - 'usage: serve, operate, digest, session, vectors or check$' "$room/link" session 07 0 image digest /dev/zero
+ends 2 - 'usage: serve, operate, digest, session, vectors, backup, restore or check$' "$room/link" session 07 0 image digest /dev/zero
 input=vector ends 0 '1 pass$' - "$room/link" vectors
 input=other_vector ends 1 '1 fail$' 'a vector failed$' "$room/link" vectors
 input=bad_line ends 10 'bad line 1$' 'bad line$' "$room/link" vectors
@@ -100,6 +103,20 @@ input=other_transcript ends 16 'pair 1$' 'not lawful$' "$room/link" check
 input=half_transcript ends 4 - 'truncated frame$' "$room/link" check
 input=lines ends 3 - 'bad frame$' "$room/link" check
 ends 0 'lawful 0$' - "$room/link" check
+
+# Backups: of no slot, restored, and one that is cut.
+head -c 64 /dev/zero >keys
+printf '%s\n' 'poweron 0' tests step step step 'role officer' >officer_lines
+input=officer_lines ends 0 'SMB1' - "$room/link" backup keys image digest /dev/urandom
+[ "$(wc -c <out)" -eq 37 ] || fail "backup wrote $(wc -c <out) bytes of no slot"
+cp out kept
+head -c 36 kept >cut
+input=lines ends 0 'NotInState Officer' - "$room/link" restore keys kept image digest /dev/urandom
+input=lines ends 15 - 'bad backup$' "$room/link" restore keys cut image digest /dev/urandom
+input=lines ends 14 - 'not officer$' "$room/link" backup keys image digest /dev/urandom
+input=lines ends 13 - 'bad key file$' "$room/link" backup image image digest /dev/urandom
+input=bad_line ends 10 'bad line 2$' 'bad line$' "$room/link" backup keys image digest /dev/urandom
+rm keys
 
 # A module to try: its folder is gone in the end, however it ends.
 mkdir tried || exit 1

@@ -3,19 +3,12 @@
 
     python3 checks/line_strength.py     tries every mistake; says which run tells it, and fails where none does
 """
-import os
-import pickle
-import subprocess
 import sys
-import tempfile
 
 import line_runs
 from line_parts import FILES
 from machine_words import run
-
-HERE = os.path.dirname(os.path.abspath(__file__))
-LINES, SESSIONS, VECTORS, WORDS = "machine_lines.py", "machine_sessions.py", "machine_vectors.py", "machine_words.py"
-MODELS = (LINES, SESSIONS, VECTORS, WORDS, "machine.py", "machine_bodies.py", "machine_functions.py", "machine_rules.py", "transcripts.py")
+from model_mistakes import LINES, SESSIONS, VECTORS, WORDS, try_all
 
 # The name of a mistake, and the text of the model that it exchanges.
 MISTAKES = [
@@ -243,8 +236,8 @@ MISTAKES = [
     ("a report has a last line behind a bad one", VECTORS, "            return BAD_LINE, written + bad_line(number)", "            return BAD_LINE, written + bad_line(number) + f\"{passed} of {checked}\\n\".encode()"),
     ("a failed line counts more than a bad one", VECTORS, "            return BAD_LINE, written + bad_line(number)", "            return SOME_FAILED if passed < checked else BAD_LINE, written + bad_line(number)"),
     ("a report begins at the bad line", VECTORS, "            return BAD_LINE, written + bad_line(number)", "            return BAD_LINE, bad_line(number)"),
-    ("a failed line is no failure", VECTORS, "SOME_FAILED if passed < checked else 0,", "0,"),
-    ("a line that passes is enough", VECTORS, "SOME_FAILED if passed < checked else 0,", "SOME_FAILED if checked and not passed else 0,"),
+    ("a failed line is no failure", VECTORS, "SOME_FAILED if passed < checked else ALL_PASSED,", "ALL_PASSED,"),
+    ("a line that passes is enough", VECTORS, "SOME_FAILED if passed < checked else ALL_PASSED,", "SOME_FAILED if checked and not passed else ALL_PASSED,"),
     # Words.
     ("a seed has 63 bits", WORDS, "number(words[0], LARGEST_SEED)", "number(words[0], 2**63 - 1)"),
     ("a seed may have 65 bits", WORDS, "number(words[0], LARGEST_SEED)", "number(words[0], 2**65)"),
@@ -258,70 +251,20 @@ MISTAKES = [
     ("names of programs have no case", WORDS, "WORDS.get(words[0] if words else None", "WORDS.get(words[0].lower() if words else None"),
     ("the files are looked at before the numbers", WORDS, "    seed, count = number(words[0], LARGEST_SEED)", "    parts(words[2:], files)\n    seed, count = number(words[0], LARGEST_SEED)"),
     ("the digest is looked at before the image", WORDS, "    image = image_of(names[0], files)\n    refuse_where(names[1] not in files, FILE_FAILED)\n    digest = digest_of(files[names[1]])\n    refuse_where(digest is None, BAD_DIGEST)\n", "    refuse_where(names[1] not in files, FILE_FAILED)\n    digest = digest_of(files[names[1]])\n    refuse_where(digest is None, BAD_DIGEST)\n    image = image_of(names[0], files)\n"),
-    ("the noise is looked at before the digest", WORDS, "    digest = digest_of(files[names[1]])\n    refuse_where(digest is None, BAD_DIGEST)\n    refuse_where(names[2] not in files, FILE_FAILED)\n", "    digest = digest_of(files[names[1]])\n    refuse_where(names[2] not in files, FILE_FAILED)\n    refuse_where(digest is None, BAD_DIGEST)\n"),
+    ("the noise is looked at before the digest", WORDS, "    refuse_where(digest is None, BAD_DIGEST)\n", "    refuse_where(names[2] not in files, FILE_FAILED)\n    refuse_where(digest is None, BAD_DIGEST)\n"),
     ("noise that isn't there is empty", WORDS, "    refuse_where(names[2] not in files, FILE_FAILED)\n    return image, digest, files[names[2]]", "    return image, digest, files.get(names[2], b\"\")"),
     ("an image that isn't there is empty", WORDS, "    refuse_where(name not in files, FILE_FAILED)\n    refuse_where(len(files[name]) > LARGEST_IMAGE, IMAGE_TOO_LONG)\n    return files[name]", "    return files.get(name, b\"\")"),
     ("a digest's line has no LF", WORDS, ".hex().encode() + b\"\\n\"", ".hex().encode()"),
 ]
 
-# Asks models with a mistake what they answer to each run, until one answer is another.
-TELLS = """
-import pickle, sys
-with open("runs", "rb") as file:
-    files, runs = pickle.load(file)
-try:
-    import machine_words
-except Exception as fault:
-    sys.exit(f"the models can't be read: {fault!r}")
-for name, words, stream, wanted in runs:
-    try:
-        same = machine_words.run(words, files, stream) == wanted
-    except Exception:
-        same = False
-    if not same:
-        print(name)
-        break
-"""
-
 
 def baseline():
     """The runs with the models' answers, the short ones first."""
-    runs = [(description, made.words, stream, run(made.words, FILES, stream)) for description, made in line_runs.described() for stream in made.inputs]
+    runs = [(description, made.words, {}, stream, run(made.words, FILES, stream)) for description, made in line_runs.described() for stream in made.inputs]
     sessions = [each for each in runs if each[1][:1] == ("session",)]
     others = [each for each in runs if each[1][:1] != ("session",)]
-    return sorted(others, key=lambda each: len(each[2]) + len(each[3][1])) + sorted(sessions, key=lambda each: int("0" + "".join(filter(str.isdigit, each[1][2]))[:6]))
-
-
-def told(mistake, runs):
-    """The first run that tells a mistake; none where no run does."""
-    _, file, right, wrong = mistake
-    with tempfile.TemporaryDirectory() as folder:
-        for name in MODELS:
-            with open(os.path.join(HERE, name), encoding="utf-8") as source:
-                text = source.read()
-            if name == file:
-                if text.count(right) != 1:
-                    return f"BAD: its text stands {text.count(right)} times in {file}"
-                text = text.replace(right, wrong)
-            with open(os.path.join(folder, name), "w", encoding="utf-8") as copy:
-                copy.write(text)
-        with open(os.path.join(folder, "runs"), "wb") as copy:
-            copy.write(runs)
-        words = [sys.executable, "-B", "-c", TELLS]
-        ran = subprocess.run(words, cwd=folder, stdout=subprocess.PIPE, text=True, env={**os.environ, "PYTHONPATH": folder})
-        return ran.stdout.strip() if ran.returncode == 0 else "BAD: it ended early"
-
-
-def main():
-    runs = pickle.dumps((FILES, baseline()))
-    untold = 0
-    for mistake in MISTAKES:
-        by = told(mistake, runs)
-        untold += not by or by.startswith("BAD")
-        print(f"{mistake[0]}: {by or 'TOLD BY NO RUN'}", flush=True)
-    print(f"{len(MISTAKES) - untold} of {len(MISTAKES)} mistakes are told")
-    return 1 if untold else 0
+    return sorted(others, key=lambda each: len(each[3]) + len(each[4][1])) + sorted(sessions, key=lambda each: int("0" + "".join(filter(str.isdigit, each[1][2]))[:6]))
 
 
 if __name__ == "__main__":
-    sys.exit(main())
+    sys.exit(try_all(MISTAKES, FILES, baseline()))

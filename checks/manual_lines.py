@@ -1,7 +1,8 @@
 #!/usr/bin/env python3
 """Writes what the manual shows of lines, whose replies come from the independent model machine.py.
 
-    python3 checks/manual_lines.py            writes the dialogue in lines and the two summaries into docs/INTERFACE.md
+    python3 checks/manual_lines.py            writes the dialogue in lines, the two summaries, and the backup and what is shown of it into
+                                              docs/INTERFACE.md
     python3 checks/manual_lines.py --check    compares these with what it would write, and also looks at what was written by hand:
                                               each example in the table of lines is a line of its service whose body has its form,
                                               and each reply that README.md shows in its typed block is the model's
@@ -9,6 +10,7 @@
 The image is `abc`, and the noise the bytes 00 to ff over and over. A line is read here by a reader of its own.
 """
 import hashlib
+import importlib.util
 import os
 import re
 import sys
@@ -18,10 +20,13 @@ sys.dont_write_bytecode = True
 
 import machine_functions as functions
 from machine import IMAGE_KEY, Machine
+from machine_backups import backup_of, restored
 from machine_bodies import LARGEST_BODY, BadBody, Service, read_request
 
 TOP = os.path.join(os.path.dirname(os.path.abspath(__file__)), "..")
 MANUAL, README = os.path.join(TOP, "docs", "INTERFACE.md"), os.path.join(TOP, "README.md")
+BACKUP_HEADING, BACKUP_TABLE = "### The bytes of a backup", "| Byte | Bytes | Content | In the example |"
+READER = os.path.join(TOP, "tools", "read_backup.py")
 DIALOGUE_HEADING, TABLE_HEADING, README_FIRST = "## A dialogue in lines", "### The lines of the services", "$ ./warlinden try"
 IMAGE = b"abc"
 DIGEST = functions.hmac(1, IMAGE_KEY, IMAGE)
@@ -282,9 +287,74 @@ def summary(seed, count):
     return [*told, f"payload {payload}", f"state {named(machine.state)}", f"sha256 {digest.hexdigest()}"]
 
 
+class Backup:
+    """The worked backup: its lines, its bytes, and what is shown of them."""
+
+    def __init__(self):
+        self.keys, key, header = counting(64), b"Jefe", "2 mac other export 7 4"
+        _, body = command_of(f"begin {header}".encode())
+        entry = [f"begin {header}", f"bytes {key.hex()}", f"commit {functions.hmac(1, key, body)[:8].hex()}"]
+        self.lines = [*FIRST[:6], *entry]
+        machine = new_machine()
+        assert all(named(answered(machine, line).status) == "Ok" for line in self.lines)
+        self.bytes = backup_of(machine.slots, self.keys)
+        assert self.bytes.hex().startswith("534d4231" "01" "02" "03" "00" "00000007" "04") and len(self.bytes) == 61
+
+    def cells(self):
+        """What the table's last column has, row by row."""
+        whole, ends = self.bytes, (0, 4, 5, 6, 7, 8, 12, 13, 29)
+        fields = [f"`{whole[at:end].hex()}`" for at, end in zip(ends, ends[1:])]
+        return [*fields, "none", f"`{whole[29:].hex()}`"]
+
+    def told(self):
+        """What the reader of backups tells of it."""
+        spec = importlib.util.spec_from_file_location("read_backup", READER)
+        reader = importlib.util.module_from_spec(spec)
+        spec.loader.exec_module(reader)
+        return reader.in_words(self.bytes, reader.told(self.keys, self.bytes, False))
+
+    def shown_slot(self):
+        machine = new_machine()
+        for line in FIRST[:6]:
+            answered(machine, line)
+        machine.slots = restored(machine.slots, self.keys, self.bytes)
+        return reply_line(answered(machine, "slot 2"))
+
+    def blocks(self):
+        """The lines; what is done with them in a shell; and what with a backup that is cut, and with one of which a bit is turned."""
+        files, last = "image digest /dev/random", self.bytes[-1]
+        done = [f"$ ./warlinden backup keys {files} <lines >backup", "$ python3 tools/read_backup.py keys backup", *self.told()]
+        done += [f"$ echo slot 2 | ./warlinden restore keys backup {files}", self.shown_slot()]
+        turned = f"$ printf '\\{last ^ 1:o}' | dd of=backup bs=1 seek={len(self.bytes) - 1} conv=notrunc status=none"
+        refused = [f"$ head -c {len(self.bytes) - 1} backup >shorter", *refusal("shorter", files), turned, *refusal("backup", files)]
+        return self.lines, done, refused
+
+
+def refusal(name, files):
+    return [f"$ ./warlinden restore keys {name} {files} </dev/null", "bad backup", "$ echo $?", "15"]
+
+
+def end_of_table(lines, at):
+    return next(place for place in range(at, len(lines)) if not lines[place].startswith("|"))
+
+
+def places_of_backup(lines):
+    """The example's column, and the blocks behind the table, each with what is to stand there."""
+    backup, start = Backup(), lines.index(BACKUP_HEADING)
+    at = lines.index(BACKUP_TABLE, start)
+    end = end_of_table(lines, at)
+    rows = [f"{row.rsplit(' |', 2)[0]} | {cell} |" for row, cell in zip(lines[at + 2 : end], backup.cells(), strict=True)]
+    yield (at + 2, end), rows
+    for block in backup.blocks():
+        at = lines.index("```text", end) + 1
+        end = lines.index("```", at)
+        yield (at, end), block
+        end += 1
+
+
 def place_of_table(lines):
     at = lines.index("| Line | Reply | In words |", lines.index(DIALOGUE_HEADING))
-    return at, next(place for place in range(at, len(lines)) if not lines[place].startswith("|"))
+    return at, end_of_table(lines, at)
 
 
 def place_of_summary(lines, words):
@@ -296,6 +366,7 @@ def with_values(lines):
     """The manual's lines with all that is computed in its place."""
     places = [(place_of_table(lines), dialogue_table())]
     places += [(place_of_summary(lines, f"session {seed} {count}"), summary(seed, count)) for seed, count in SHOWN_SESSIONS]
+    places += places_of_backup(lines)
     for (at, end), values in sorted(places, reverse=True):
         lines = lines[:at] + values + lines[end:]
     return lines

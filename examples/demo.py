@@ -12,7 +12,7 @@ import sys
 import tempfile
 
 from client import (
-    TAG_LENGTH, Domain, Ended, Kind, Module, Service, State, Status, check_value, command_frame, derive_body, entry_header, exit_in_words,
+    EXIT_STATUSES, TAG_LENGTH, Domain, Ended, Kind, Module, Service, State, Status, check_value, command_frame, derive_body, entry_header, exit_in_words,
     image_digest, open_body, parts_of_sealed, read_reply, run, seal_body, show_exchange, unwrap_body,
 )
 from transcript import pair
@@ -110,6 +110,17 @@ TYPED = [
     ("hash sha256 616263", f"Ok User 1 0000 {NO_BLOCK} {ABC_DIGEST}"),
     ("mac 3 sha256 32 616263", f"EmptySlot User 0 0000 {NO_BLOCK} -"),
 ]
+# Lines whose keys are backed up, and lines to a module into which they were restored, with the replies that each must get.
+BACKED_UP = [line for line, _ in TYPED[:5]] + ["role officer", "begin 3 mac other export 100 4", "bytes 4a656665"]
+BACKED_UP += [f"commit {check_value(entry_header(3, Kind.MacKey, Domain.Other, True, 100, 4), b'Jefe').hex()}", "generate 0 aes approved keep 100 32"]
+RESTORED = [
+    ("slot 3", "Ok Officer 0 0000 010300010400000000000064 -"),
+    ("slot 0", f"Ok Officer 0 0000 {NO_BLOCK} -"),
+    ("role user", f"Ok User 0 0000 {NO_BLOCK} -"),
+    (f"mac 3 sha256 8 {QUESTION.hex()}", f"Ok User 0 0000 {NO_BLOCK} {JEFE_MAC.hex()}"),
+]
+# Its first bytes; where its parts begin and end, which are a mark, the number of keys, what the key is for, the key, and a tag.
+ONE_KEPT, BACKUP_ENDS, BAD_BACKUP = b"SMB1\1\3", (0, 4, 5, 13, 29, 61), 15
 # Test vectors of the algorithms, and the report on them.
 VECTORS = [
     (f"sha256 616263 {ABC_DIGEST}", "1 pass"),
@@ -218,13 +229,14 @@ def write_file(room, name, content):
 
 
 def make_files(program, room, at_once):
-    """Makes an image, its digest by the program itself, and noise for a pass of the tests and a reseed. Says whether the digest is right."""
+    """Makes an image, its digest by the program itself, noise for a pass of the tests and a reseed, and keys. Says whether the digest is right."""
     image = b"abc"
     write_file(room, "image", image)
     digesting = over_files(program, "digest", ["image"], room, at_once)
     line = subprocess.run(digesting, stdin=subprocess.DEVNULL, stdout=subprocess.PIPE, stderr=subprocess.DEVNULL).stdout
     write_file(room, "digest", line)
     write_file(room, "noise", os.urandom(1408 + 256))
+    write_file(room, "keys", os.urandom(64))
     print(f"The image has {len(image)} bytes, and the digest {line.decode('ascii', 'replace').strip()}")
     if line != image_digest(image).encode() + b"\n":
         print(f"    THIS IS NOT WHAT WAS EXPECTED: {image_digest(image)}")
@@ -245,6 +257,40 @@ def play_lines(words, rows, last=()):
     if written != wanted:
         print(f"    THIS IS NOT WHAT WAS EXPECTED: {wanted}")
     return ran.returncode or int(written != wanted)
+
+
+def back_up(words):
+    """The backup of the keys that lines enter, which is shown as the table of its bytes has it; none where it isn't what it should be."""
+    print("\n".join(BACKED_UP))
+    ran = subprocess.run(words, input="".join(f"{line}\n" for line in BACKED_UP).encode(), stdout=subprocess.PIPE, stderr=subprocess.DEVNULL)
+    backup = ran.stdout
+    print(f"    {len(backup)} bytes, exit status {ran.returncode}:")
+    for start, end in zip(BACKUP_ENDS, BACKUP_ENDS[1:]):
+        print(f"    {backup[start:end].hex()}")
+    if ran.returncode != 0 or len(backup) != BACKUP_ENDS[-1] or not backup.startswith(ONE_KEPT):
+        print(f"    THIS IS NOT WHAT WAS EXPECTED: one key, in {BACKUP_ENDS[-1]} bytes")
+        return None
+    print("    That is a mark, one key, what it is for, the key itself, wrapped, and a tag. The key of slot 0 may not leave.")
+    return backup
+
+
+def show_backup(program, room, at_once):
+    """A backup, lines to a module that has its keys, and the same backup with its last bit turned."""
+    backup = back_up(over_files(program, "backup", ["keys", "image", "digest", "noise"], room, at_once))
+    if backup is None:
+        return 1
+    write_file(room, "kept", backup)
+    words = over_files(program, "restore", ["keys", "kept", "image", "digest", "noise"], room, at_once)
+    status = play_lines(words, RESTORED)
+    if status != 0:
+        return status
+    write_file(room, "kept", backup[:-1] + bytes([backup[-1] ^ 1]))
+    ran = subprocess.run(words, stdin=subprocess.DEVNULL, stdout=subprocess.PIPE, stderr=subprocess.DEVNULL)
+    print(f"The same backup with its last bit turned\n    exit status {ran.returncode}, {EXIT_STATUSES.get(ran.returncode)}")
+    if (ran.returncode, ran.stdout) != (BAD_BACKUP, b""):
+        print(f"    THIS IS NOT WHAT WAS EXPECTED: exit status {BAD_BACKUP}, and nothing written")
+        return 1
+    return 0
 
 
 # Of a reply, the place of its state.
@@ -293,6 +339,10 @@ def demo(program, with_numbers, at_once):
             return status
         print("\nThe same module for a person: each line that is typed, and the line that answers it")
         status = play_lines(over_files(program, "operate", ["image", "digest", "noise"], room, at_once), TYPED)
+        if status != 0:
+            return status
+        print("\nA backup of the keys that lines enter, and another module that begins with them")
+        status = show_backup(program, room, at_once)
         if status != 0:
             return status
         print("\nTest vectors of its algorithms, and the report on each")
