@@ -12,7 +12,7 @@ import subprocess
 import sys
 import tempfile
 
-from hostile_inputs import INPUTS
+from hostile_inputs import BACKUP, INPUTS, TWO_KEYS
 from line_parts import FILES
 
 OUT_OF_MEMORY, TEXT = 7, b"out of memory\n"
@@ -24,6 +24,8 @@ RUNS = [
     (("serve", *PARTS), "frames"),
     (("operate", *PARTS), "lines"),
     (("session", "7", "9", *PARTS), "nothing"),
+    (("backup", "keys", *PARTS), "kept"),
+    (("restore", "keys", "backup", *PARTS), "restored"),
     (("vectors",), "vectors"),
     (("check",), "transcript"),
     (("digest", "image"), "nothing"),
@@ -38,7 +40,7 @@ class Wrong(Exception):
 class Runner:
     def __init__(self, program, library, room):
         self.program, self.library, self.room = os.path.abspath(program), os.path.abspath(library), room
-        for name, content in {**{name: FILES[name] for name in PARTS}, **INPUTS}.items():
+        for name, content in {**{name: FILES[name] for name in PARTS}, "keys": TWO_KEYS, "backup": BACKUP, **INPUTS}.items():
             with open(os.path.join(room, name), "wb") as file:
                 file.write(content)
 

@@ -1,7 +1,8 @@
-"""The inputs of hostile_program: an operator's lines that use every service, the same commands as frames, vectors for each call of an
-engine, and what a recorder makes of the frames."""
+"""The inputs of hostile_program: an operator's lines that use every service, the same commands as frames, lines for a backup and for what it
+restores, vectors for each call of an engine, and what a recorder makes of the frames."""
 import machine_functions as functions
 from line_parts import FILES, Operator, Surprise, counted, line, padded, sealed, turned, wrapped
+from machine_backups import KEYS, backup_of
 from machine import Machine, frame
 from machine_bodies import Service
 from machine_lines import command, digest_of
@@ -122,7 +123,28 @@ def drawing():
     return o
 
 
-LINES, DRAWS = operator().lines, drawing().lines
+def keeping():
+    """An officer with slots, of which two are kept."""
+    o = powered()
+    with_keys(o)
+    return o
+
+
+LINES, DRAWS, KEPT = operator().lines, drawing().lines, keeping()
+# The two keys of a backup, and the backup of what was kept.
+TWO_KEYS = counted(KEYS)
+BACKUP = backup_of(KEPT.machine.slots, TWO_KEYS)
+# What is asked of the restored slots, and of the module behind a Reset.
+RESTORED = [
+    line("slot", 0),
+    line("slot", 2),
+    "random 20 -",
+    "role user",
+    line("mac", 2, "sha256", 32, TEXT),
+    line("sealiv", 0, 16, IV, AAD, TEXT),
+    "reset",
+    "status",
+]
 
 
 def frames_of(lines):
@@ -177,6 +199,9 @@ INPUTS = {
     "draws": b"".join(frames_of(DRAWS)),
     "lines": b"# all services\n" + b"\n".join(LINES),
     "lines_bad": b"\n".join(LINES[:FEW]) + b"\nfrob\n" + LINES[0] + b"\n",
+    "kept": b"\n".join(KEPT.lines),
+    "kept_by_nobody": b"\n".join(KEPT.lines) + b"\nrole user\n",
+    "restored": "\n".join(RESTORED).encode(),
     "vectors": vectors(),
     "vectors_bad": b"\n".join(vectors().split(b"\n")[:FEW]) + b"\nsha256 6\n" + vectors()[:100],
     "transcript": TRANSCRIPT,

@@ -17,18 +17,20 @@ from collections import Counter, namedtuple
 from functools import lru_cache
 
 import stored_files
-from hostile_inputs import INPUTS
+from hostile_inputs import BACKUP as KEPT
+from hostile_inputs import INPUTS, TWO_KEYS
 from hostile_worlds import CALLS, CROWDS, ENDS, FAILS, FILE, NOISE, NOTHING_WRONG, READ, REPEATS, WRITE, Wrong, outside_of, play, script
 from line_parts import FILES, Surprise
 
 Sweep = namedtuple("Sweep", "fault other first last by step takes input words")
 
 CRATE = "hostile_program"
-NAMED = {name: FILES[name] for name in ("image", "digest")}
+NAMED = {"image": FILES["image"], "digest": FILES["digest"], "keys": TWO_KEYS, "backup": KEPT}
 EVENTS = FILES["noise"]
 PARTS = ("image", "digest", "noise")
 SERVE, OPERATE = ("serve", *PARTS), ("operate", *PARTS)
 SESSION = ("session", "7", "9", *PARTS)
+BACKUP, RESTORE = ("backup", "keys", *PARTS), ("restore", "keys", "backup", *PARTS)
 VECTORS, CHECK, DIGEST = ("vectors",), ("check",), ("digest", "image")
 # How many bytes come or go at a time where nothing depends on it, and where all come or go at once.
 SOME, ALL = 61, 65_536
@@ -69,7 +71,7 @@ def writes(input, words, takes, by=1, step=SOME, read=0):
 
 def files(words, input="nothing"):
     """Each call on files fails, and behind the last one none."""
-    return Sweep(FILE, 0, 1, 4, 1, ALL, ALL, input, words)
+    return Sweep(FILE, 0, 1, 6, 1, ALL, ALL, input, words)
 
 
 def noise(fault, other, first, last, by=1, input="frames", words=SERVE):
@@ -80,6 +82,7 @@ def lies(call, bit, last=6, input="frames", words=SERVE):
     return Sweep(call, bit, 1, last, 1, ALL, ALL, input, words)
 
 
+LONGER = ("kept", BACKUP), ("kept_by_nobody", BACKUP), ("lines_bad", BACKUP), ("restored", RESTORE), ("lines_bad", RESTORE)
 SHORT = ("frames_bad", SERVE), ("lines_bad", OPERATE), ("vectors_bad", VECTORS), ("transcript_bad", CHECK), ("transcript_unlawful", CHECK)
 
 
@@ -92,7 +95,7 @@ def failing_reads():
         yield reads(input, words, SOME)
         yield reads(input, words, 509)
         yield reads(input, words, ALL)
-    for input, words in SHORT + (("frames_cut", SERVE), ("transcript_cut", CHECK)):
+    for input, words in SHORT + LONGER + (("frames_cut", SERVE), ("transcript_cut", CHECK)):
         yield reads(input, words, 13)
         yield reads(input, words, ALL)
     for input, words in SHORT:
@@ -108,7 +111,7 @@ def failing_writes():
         yield writes(input, words, 1, by=7)
         yield writes(input, words, 13)
         yield writes(input, words, ALL)
-    for input, words in SHORT + (("transcript", CHECK), ("nothing", SESSION), ("nothing", DIGEST), ("nothing", VECTORS), ("nothing", CHECK)):
+    for input, words in SHORT + LONGER + (("transcript", CHECK), ("nothing", SESSION), ("nothing", DIGEST), ("nothing", VECTORS), ("nothing", CHECK)):
         yield writes(input, words, 1)
         yield writes(input, words, 5)
         yield writes(input, words, ALL, step=ALL)
@@ -124,12 +127,15 @@ def failing_reads_and_writes():
 
 
 def failing_files():
-    for words in (SERVE, OPERATE, SESSION, DIGEST, VECTORS, CHECK, ("frob",)):
+    for words in (SERVE, OPERATE, SESSION, BACKUP, RESTORE, DIGEST, VECTORS, CHECK, ("frob",)):
         yield files(words)
     # The digest's file isn't one: that is told before the noise is looked at. And names that no file or noise has.
     for first in (("serve",), ("operate",), ("session", "7", "2")):
         for named in (("image", "image", "noise"), ("image", "digest", "image"), ("noise", "digest", "noise"), ("digest", "digest", "noise")):
             yield files((*first, *named), "frames" if first == ("serve",) else "lines")
+    for more in (("backup", "image"), ("backup", "nothing"), ("restore", "image", "backup"), ("restore", "keys", "nothing"), ("restore", "keys", "image")):
+        yield files((*more, *PARTS), "restored")
+        yield files((*more, "image", "image", "nothing"), "restored")
     yield files(("digest", "noise"))
 
 
@@ -140,6 +146,8 @@ def wrong_noise():
         yield noise(fault, byte, 1, TAKEN + 2, by=67)
         yield noise(fault, byte, 1, FIRST, by=131, input="lines", words=OPERATE)
         yield noise(fault, byte, 1, PASS + 2, by=131, input="nothing", words=SESSION)
+        yield noise(fault, byte, 1, FIRST, by=61, input="kept", words=BACKUP)
+        yield noise(fault, byte, 1, PASS + 2, by=61, input="restored", words=RESTORE)
     # So many equal samples before it that one more would be unhealthy, and that the last one is.
     for fault in (ENDS, FAILS):
         for zeros in (30, 31):
@@ -159,6 +167,8 @@ def lying_engines():
         yield lies(call, 3, input="lines", words=OPERATE)
         yield lies(call, 4, input="vectors", words=VECTORS)
         yield lies(call, 5, input="nothing", words=SESSION)
+        yield lies(call, 6, input="kept", words=BACKUP)
+        yield lies(call, 2, input="restored", words=RESTORE)
     yield lies("mac", 6, input="nothing", words=DIGEST)
     # The known answers and some MACs are right, and then check values are wrong, or the image's second test.
     yield lies("mac", 1, last=20)

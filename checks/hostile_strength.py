@@ -14,7 +14,7 @@ HERE = os.path.dirname(os.path.abspath(__file__))
 WORLDS, MACHINE = "hostile_worlds.py", "machine.py"
 COPIED = (
     "hostile_runs.py hostile_worlds.py line_parts.py machine.py machine_bodies.py machine_functions.py machine_lines.py machine_rules.py "
-    "machine_sessions.py machine_vectors.py stored_files.py transcripts.py"
+    "machine_backups.py machine_sessions.py machine_vectors.py machine_words.py stored_files.py transcripts.py"
 ).split()
 
 # The name of a mistake, and the text of the model that it exchanges.
@@ -58,11 +58,22 @@ MISTAKES = [
     ("all replies are written at the end", WORLDS, "                outside.read_to(need)\n                outside.write(pieces)\n", "                outside.read_to(need)\n                late = [*late, *pieces] if done else pieces\n"),
     ("a bad line isn't told", WORLDS, "(BAD_LINE, [bad_line(number)])", "(BAD_LINE, [])"),
     # Files.
-    ("a failed file is a faulty command line", WORLDS, "            return refused(FILE_FAILED)\n        if turn == 2", "            return refused(USAGE)\n        if turn == 2"),
-    ("the noise is opened before the digest is looked at", WORLDS, "        if turn == 2 and digest_of", "        if turn == 3 and digest_of"),
-    ("the noise is opened first", WORLDS, "    for turn, holds in enumerate(known, 1):\n", "    for turn, holds in enumerate(known, 1 if wrong.fault != FILE else 0):\n"),
-    ("a bad digest is a failed file", WORLDS, "            return refused(BAD_DIGEST)", "            return refused(FILE_FAILED)"),
-    ("a missing noise is no noise", WORLDS, "named[\"noise\"] == \"noise\"]", "True]"),
+    ("a failed file is a faulty command line", WORLDS, "            return FILE_FAILED\n", "            return USAGE\n"),
+    ("the noise is opened first", WORLDS, "    named = {\"image\": image, \"digest\": digest, **dict(zip(own, more)), \"noise\": source}", "    named = {\"noise\": source, \"image\": image, \"digest\": digest, **dict(zip(own, more))}"),
+    ("the digest is loaded first", WORLDS, "    named = {\"image\": image, \"digest\": digest, **", "    named = {\"digest\": digest, \"image\": image, **"),
+    ("the backup is loaded before its keys", WORLDS, "    named = {\"image\": image, \"digest\": digest, **dict(zip(own, more))", "    named = {\"image\": image, \"digest\": digest, **dict(list(zip(own, more))[::-1])"),
+    ("the keys are loaded first", WORLDS, "    named = {\"image\": image, \"digest\": digest, **dict(zip(own, more)), \"noise\": source}", "    named = {**dict(zip(own, more)), \"image\": image, \"digest\": digest, \"noise\": source}"),
+    ("a bad digest is a failed file", WORLDS, "is not None, BAD_DIGEST)", "is not None, FILE_FAILED)"),
+    ("bad keys are a bad digest", WORLDS, "== KEYS, BAD_KEYS)", "== KEYS, BAD_DIGEST)"),
+    ("a missing noise is no noise", WORLDS, "(files if role != \"noise\" else (\"noise\",))", "(files if role != \"noise\" else (name,))"),
+    ("a backup's replies are heard", WORLDS, "    doings = [(end, []) for end, _ in heard.doings]", "    doings = heard.doings"),
+    ("a backup is written where a read fails", WORLDS, "    return Script(doings, None, (0, [backup_of(machine.slots, keys)]))", "    made = backup_of(machine.slots, keys)\n    return Script(doings, None, (0, [made]), True, [[made]] * (len(doings) + 1))"),
+    ("a backup is written in two pieces", WORLDS, "    return Script(doings, None, (0, [backup_of(machine.slots, keys)]))", "    made = backup_of(machine.slots, keys)\n    return Script(doings, None, (0, [made[:-32], made[-32:]]))"),
+    ("a user backs up", WORLDS, "    if machine.state != State.OFFICER:\n        return Script(", "    if machine.state not in (State.OFFICER, State.USER):\n        return Script("),
+    ("a module in Error backs up", WORLDS, "    if machine.state != State.OFFICER:\n        return Script(", "    if machine.state not in (State.OFFICER, State.ERROR):\n        return Script("),
+    ("a module in Error restores", WORLDS, "    if machine.state != State.OFFICER:\n        return refused(", "    if machine.state not in (State.OFFICER, State.ERROR):\n        return refused("),
+    ("a backup that is refused is answered over lines", WORLDS, "        return refused(BAD_BACKUP)", "        return operate(machine, stream)"),
+    ("a restored run's first lines are those of its start", WORLDS, "    for each in TO_OFFICER:\n        machine.command(*command(each))\n    if machine.state != State.OFFICER:\n        return refused(NOT_OFFICER)\n", "    for each in TO_OFFICER[:5]:\n        machine.command(*command(each))\n    if machine.state != State.APPROVED:\n        return refused(NOT_OFFICER)\n"),
     ("a digest's image isn't loaded by a call", WORLDS, "(wrong.fault == FILE and wrong.turn == 1)", "False"),
     # Noise.
     ("noise that failed is noise that ended", MACHINE, "NOISE_ENDED, NOISE_FAILED, REPEATED, OUT_OF_PROPORTION = 0x0200, 0x0300, 0x0400", "NOISE_ENDED, NOISE_FAILED, REPEATED, OUT_OF_PROPORTION = 0x0200, 0x0400, 0x0300"),
@@ -116,7 +127,8 @@ class Inputs(dict):
         with open(f"{data}/data/{name}", "rb") as file:
             self[name] = file.read()
         return self[name]
-sys.modules["hostile_inputs"] = types.SimpleNamespace(INPUTS=Inputs())
+inputs = Inputs()
+sys.modules["hostile_inputs"] = types.SimpleNamespace(INPUTS=inputs, TWO_KEYS=inputs["keys"], BACKUP=inputs["backup"])
 try:
     import hostile_runs
 except Exception as fault:

@@ -24,14 +24,16 @@ from machine import (
     Machine,
     fault,
 )
-from machine_bodies import Status
+from machine_backups import KEYS, LARGEST_BACKUP, BadBackup, backup_of, restored
+from machine_bodies import State, Status
 from machine_lines import BAD_DIGEST, BAD_LINE, BadLine, bad_line, command, digest_of, reply_line
 from machine_rules import BadFrame, Public, pair_at
 from machine_sessions import session, summary_of
 from machine_vectors import passes
+from machine_words import TO_OFFICER
 
 USAGE, READ_FAILED, WRITE_FAILED, FILE_FAILED = 2, 5, 6, 8
-BAD_FRAME, TRUNCATED, NOT_LAWFUL = 3, 4, 16
+BAD_FRAME, TRUNCATED, BAD_KEYS, NOT_OFFICER, BAD_BACKUP, NOT_LAWFUL = 3, 4, 13, 14, 15, 16
 # The program asks for so many bytes at once.
 CHUNK = 65_536
 
@@ -177,6 +179,29 @@ def operate(machine, stream):
     return Script(doings, None, (0, last))
 
 
+def back_up(machine, stream, keys):
+    """Lines whose replies nobody hears, and then the backup."""
+    heard = operate(machine, stream)
+    doings = [(end, []) for end, _ in heard.doings]
+    if heard.ending[0] != 0:
+        return heard._replace(doings=doings)
+    if machine.state != State.OFFICER:
+        return Script(doings, None, (NOT_OFFICER, []))
+    return Script(doings, None, (0, [backup_of(machine.slots, keys)]))
+
+
+def restore(machine, stream, keys, backup):
+    for each in TO_OFFICER:
+        machine.command(*command(each))
+    if machine.state != State.OFFICER:
+        return refused(NOT_OFFICER)
+    try:
+        machine.slots = restored(machine.slots, keys, backup)
+    except BadBackup:
+        return refused(BAD_BACKUP)
+    return operate(machine, stream)
+
+
 # The calls that a vector's check makes.
 MADE = {
     **dict.fromkeys((b"sha256", b"sha384", b"sha512"), (0,)),
@@ -238,19 +263,37 @@ def refused(status):
     return Script([], 0, (status, []), False)
 
 
+# What a file has to be, and the status where it isn't.
+FORMS = {
+    "digest": (lambda content: digest_of(content) is not None, BAD_DIGEST),
+    "keys": (lambda content: len(content) == KEYS, BAD_KEYS),
+    "backup": (lambda content: len(content) <= LARGEST_BACKUP, BAD_BACKUP),
+}
+
+
+def fault_of_files(named, files, wrong):
+    """The first status by which a file or the noise refuses a run, or none: they are looked at in this order."""
+    for turn, (role, name) in enumerate(named.items(), 1):
+        if name not in (files if role != "noise" else ("noise",)) or (wrong.fault == FILE and wrong.turn == turn):
+            return FILE_FAILED
+        holds, status = FORMS.get(role, (lambda content: True, None))
+        if role != "noise" and not holds(files[name]):
+            return status
+    return None
+
+
 def on_module(words, files, noise, wrong, stream):
     """What a run does whose words name an image, a digest and a noise."""
-    named = dict(zip(("image", "digest", "noise"), words[-3:]))
-    known = [named["image"] in files, named["digest"] in files, named["noise"] == "noise"]
-    for turn, holds in enumerate(known, 1):
-        if not holds or (wrong.fault == FILE and wrong.turn == turn):
-            return refused(FILE_FAILED)
-        if turn == 2 and digest_of(files[named["digest"]]) is None:
-            return refused(BAD_DIGEST)
-    machine = Watched(files[named["image"]], digest_of(files[named["digest"]]), noise_of(wrong, noise), engine_of(wrong))
-    if words[0] == "session":
+    first, *more, image, digest, source = words
+    own = {"backup": ("keys",), "restore": ("keys", "backup")}.get(first, ())
+    named = {"image": image, "digest": digest, **dict(zip(own, more)), "noise": source}
+    status = fault_of_files(named, files, wrong)
+    if status is not None:
+        return refused(status)
+    machine = Watched(files[image], digest_of(files[digest]), noise_of(wrong, noise), engine_of(wrong))
+    if first == "session":
         return Script([], 0, (0, [summary_of(machine, session(int(words[1]), int(words[2])))]), False)
-    return {"serve": serve, "operate": operate}[words[0]](machine, stream)
+    return {"serve": serve, "operate": operate, "backup": back_up, "restore": restore}[first](machine, stream, *(files[name] for name in more))
 
 
 def digest(words, files, wrong):
@@ -262,7 +305,7 @@ def digest(words, files, wrong):
 
 def script(words, files, noise, wrong, stream):
     """What the words do where the noise, the engine or a call on files is wrong."""
-    if words[0] not in ("serve", "operate", "session", "digest", "vectors", "check"):
+    if words[0] not in ("serve", "operate", "session", "backup", "restore", "digest", "vectors", "check"):
         return refused(USAGE)
     if words[0] == "vectors":
         return vectors(engine_of(wrong), stream)

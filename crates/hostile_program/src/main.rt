@@ -111,6 +111,8 @@ fn world_of(rt: &HostRuntime, input: &str) -> Option<World> {
     Some(World {
         image: files.load(rt.alloc(), "image", LONGEST).ok()?,
         digest: files.load(rt.alloc(), "digest", LONGEST).ok()?,
+        keys: files.load(rt.alloc(), "keys", LONGEST).ok()?,
+        backup: files.load(rt.alloc(), "backup", LONGEST).ok()?,
         noise: files.load(rt.alloc(), "noise", LONGEST).ok()?,
         input: files.load(rt.alloc(), input, LONGEST).ok()?,
     })

@@ -15,6 +15,8 @@ const REPETITION: u64 = 31;
 pub struct World {
     pub image: Vec<u8>,
     pub digest: Vec<u8>,
+    pub keys: Vec<u8>,
+    pub backup: Vec<u8>,
     pub noise: Vec<u8>,
     pub input: Vec<u8>,
 }
@@ -80,12 +82,17 @@ fn name_of(alloc: Global, name: &str) -> Option<String> {
 /// The files of a run, and its noise. None where memory is wanting.
 pub fn files_of(alloc: Global, sweep: &Sweep, world: &World, turn: u64) -> Option<MemFiles> {
     let mut files = Vec::new(alloc);
-    files
-        .push((name_of(alloc, "image")?, world.image.to_vec(alloc).ok()?))
-        .ok()?;
-    files
-        .push((name_of(alloc, "digest")?, world.digest.to_vec(alloc).ok()?))
-        .ok()?;
+    let named: [(&str, &Vec<u8>); 4] = [
+        ("image", &world.image),
+        ("digest", &world.digest),
+        ("keys", &world.keys),
+        ("backup", &world.backup),
+    ];
+    for (name, bytes) in named {
+        files
+            .push((name_of(alloc, name)?, bytes.to_vec(alloc).ok()?))
+            .ok()?;
+    }
     let mut noises = Vec::new(alloc);
     noises
         .push((
