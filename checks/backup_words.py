@@ -6,6 +6,7 @@ import hashlib
 import hmac
 import importlib.util
 import os
+import random
 import re
 import signal
 import subprocess
@@ -39,6 +40,7 @@ START = ["poweron 0", "tests", "step", "step", "step", "role officer"]
 KINDS = {"aes": "AES key", "kek": "wrapping key", "mac": "MAC key", "kdf": "derivation key"}
 NUMBERS = {"aes": 1, "kek": 2, "mac": 3, "kdf": 4}
 DOMAINS = {"other": "Other", "approved": "Approved"}
+RANDOM_RUNS = 60
 # The number of slots, and where a backup tells how many are kept.
 SLOTS, COUNT_AT = 16, 4
 ROOM = tempfile.TemporaryDirectory()
@@ -351,6 +353,45 @@ def answers_at_once():
         expect("what is written behind the last reply", (waiting.stdout.read(), waiting.wait(SECONDS)), (b"", 0))
 
 
+def random_entry(rng):
+    kind, domain = rng.choice(list(KINDS)), rng.choice(list(DOMAINS))
+    length = rng.choice((16, 24, 32)) if kind in ("aes", "kek") else rng.randint(14 if domain == "approved" else 1, 64)
+    kept = Kept(rng.randrange(SLOTS), kind, domain, rng.randint(1, 3), length, rng.randbytes(length))
+    return kept.entering(rng.choice(("export", "export", "keep")))
+
+
+def random_lines(rng):
+    """Lines of an officer and a user, most of which fit what the slots may hold."""
+    kind, domain, export = rng.choice(list(KINDS)), rng.choice(list(DOMAINS)), rng.choice(("export", "keep"))
+    slot, other, uses, length = rng.randrange(SLOTS), rng.randrange(SLOTS), rng.randint(1, 3), rng.choice((16, 24, 32))
+    return rng.choice((
+        random_entry(rng), random_entry(rng), random_entry(rng), ["role officer"], ["role officer"], ["role user"], [f"slot {slot}"],
+        [f"generate {slot} {kind} {domain} {export} {uses} {length}"], [f"derive {slot} {other} {kind} {export} {uses} {length} 6c -"],
+        [f"zeroise {slot}"], [f"zeroisetree {slot}"], [f"wrappad {slot} {other}"], ["role user", f"mac {slot} sha256 8 616263", "role officer"],
+        ["role user", f"seal {slot} 16 - 616263", "role officer"], ["tests", "step", "step", "step"], ["reseed -"], ["status"],
+    ))
+
+
+def random_runs():
+    """Random lines are backed up, and random lines follow what was restored, as a model has it that shares nothing with the sources."""
+    from machine_words import run
+
+    names = [in_room("image"), in_room("digest"), in_room("much_noise", bytes(k * k // 7 % 256 for k in range(40_000)))]
+    keys, kept_name = in_room("keys"), in_room("random_backup")
+    for seed in range(RANDOM_RUNS):
+        rng = random.Random(seed)
+        lines = [line for _ in range(rng.randint(0, 25)) for line in random_lines(rng)]
+        stream = joined(START + lines + (["role officer"] if rng.random() < 0.9 else []))
+        files = {path: content(path) for path in (*names, keys)}
+        backing = ["backup", keys, *names]
+        expect(f"the random backup {seed}", ended(backing, stream), run(backing, files, stream))
+        status, files[kept_name] = run(backing, files, stream)
+        in_room("random_backup", files[kept_name])
+        restoring = ["restore", keys, kept_name, *names]
+        stream = joined([f"slot {slot}" for slot in range(SLOTS)] + [line for _ in range(9) for line in random_lines(rng)])
+        expect(f"what follows the random backup {seed}, which has the status {status}", ended(restoring, stream), run(restoring, files, stream))
+
+
 def parted(stored):
     """The backups of a stored file, each of which stands behind its length in two bytes."""
     while stored:
@@ -424,6 +465,7 @@ PARTS = {
     "keys in two modules": between_runs,
     "sixteen keys": full,
     "changed backups": changed,
+    "random lines": random_runs,
     "files of keys": key_files,
     "ends": ends,
     "faults of streams": faults,

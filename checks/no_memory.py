@@ -5,8 +5,8 @@ In Rattle memory comes from an allocator, which a call is given, or from a vecto
 enough that
 
 1. nothing that the work can call is given an allocator or a runtime: the calls are followed by their names, from where serving,
-   operating, a session, a backup, a report of vectors, a check of a transcript and a digest's line begin, through all crates below the
-   program. Where a name can mean several functions, all of them are followed;
+   operating, a backup, what restores one, a session, a report of vectors, a check of a transcript and a digest's line begin, through all
+   crates below the program. Where a name can mean several functions, all of them are followed;
 2. nothing that the work can call makes a vector, a string or a box, or calls what may grow one: each place that looks like it is listed
    below with what its receiver is;
 3. no type keeps an allocator;
@@ -30,9 +30,9 @@ PROGRAM = "module_program"
 WORK = {
     "command_serving serve": "frames",
     "line_serving operate": "an operator's lines",
+    "backup_runs back_up": "a backup",
+    "backup_runs restore_and_operate": "an operator's lines behind a restored backup",
     "session_runs run_session": "a session",
-    "backup_runs back_up": "lines and the backup of what they made",
-    "backup_runs restore_and_operate": "a backup that is restored, and lines",
     "vector_reports report_vectors": "vectors",
     "transcript_report check_transcript": "a transcript",
     "stream_calls write_all": "the digest's line",
@@ -44,51 +44,50 @@ MAKES = "makes what a run works in"
 BEFORE = "is called before the work begins, and hands the allocator to what makes something"
 LOADS = "loads a file, before the work begins"
 RUNS = "takes all the memory and then works"
-# By their names, in whatever crate they stand.
 GIVEN = {
-    "Outbox::new": MAKES,
-    "Parts::new": MAKES,
-    "Work::new": MAKES,
-    "Lines::new": MAKES,
-    "LineCodec::new": MAKES,
-    "Command::new": MAKES,
-    "Frames::new": MAKES,
-    "Reply::new": MAKES,
-    "Vault::new": MAKES,
-    "blank_keys": MAKES,
-    "Module::open": MAKES,
-    "Pairs::new": MAKES,
-    "MemSink::new": "is for tests and stored runs",
-    "MemFiles::load": "is for tests and stored runs",
-    "Files::load": LOADS,
-    "DiskFiles::load": LOADS,
-    "read_within": LOADS,
-    "load_image": LOADS,
-    "load_digest": LOADS,
-    "load_keys": LOADS,
-    "load_backup": LOADS,
-    "digest_image": LOADS,
-    "run": BEFORE,
-    "perform": BEFORE,
-    "work_on_files": BEFORE,
-    "work_with_keys": BEFORE,
-    "do_work": BEFORE,
-    "serve_frames": BEFORE,
-    "operate_lines": BEFORE,
-    "operate_restored": BEFORE,
-    "back_up_lines": BEFORE,
-    "summarise": BEFORE,
-    "check_vectors": BEFORE,
-    "check_pairs": BEFORE,
-    "open_and_serve": RUNS,
-    "open_and_operate": RUNS,
-    "open_and_restore": RUNS,
-    "open_and_back_up": RUNS,
-    "open_and_run": RUNS,
-    "take_and_report": RUNS,
-    "take_and_check": RUNS,
-    "words_of": "reads the words of the command line",
-    "main": "has the runtime, and calls run once",
+    "bits_core Outbox::new": MAKES,
+    "crypto_services Parts::new": MAKES,
+    "crypto_services Work::new": MAKES,
+    "line_input Lines::new": MAKES,
+    "line_serving LineCodec::new": MAKES,
+    "module_frames Command::new": MAKES,
+    "module_frames Frames::new": MAKES,
+    "module_frames Reply::new": MAKES,
+    "ssp_slots Vault::new": MAKES,
+    "ssp_slots blank_keys": MAKES,
+    "state_model Module::open": MAKES,
+    "transcript_pairs Pairs::new": MAKES,
+    "outside MemSink::new": "is for tests and stored runs",
+    "outside MemFiles::load": "is for tests and stored runs",
+    "outside Files::load": LOADS,
+    "outside DiskFiles::load": LOADS,
+    "outside read_within": LOADS,
+    "module_top load_image": LOADS,
+    "module_top load_digest": LOADS,
+    "module_top load_keys": LOADS,
+    "module_top load_backup": LOADS,
+    "module_top digest_image": LOADS,
+    "module_top run": BEFORE,
+    "module_top perform": BEFORE,
+    "module_top work_on_files": BEFORE,
+    "module_top work_with_keys": BEFORE,
+    "module_works do_work": BEFORE,
+    "module_works serve_frames": BEFORE,
+    "module_works operate_lines": BEFORE,
+    "module_works summarise": BEFORE,
+    "module_works back_up_lines": BEFORE,
+    "module_works operate_restored": BEFORE,
+    "module_top check_vectors": BEFORE,
+    "module_top check_pairs": BEFORE,
+    "module_works open_and_serve": RUNS,
+    "module_works open_and_operate": RUNS,
+    "module_works open_and_run": RUNS,
+    "module_works open_and_back_up": RUNS,
+    "module_works open_and_restore": RUNS,
+    "module_top take_and_report": RUNS,
+    "module_top take_and_check": RUNS,
+    f"{PROGRAM} words_of": "reads the words of the command line",
+    f"{PROGRAM} main": "has the runtime, and calls run once",
 }
 
 # What may grow a vector or a string, or make another one.
@@ -151,8 +150,7 @@ def without_clauses(text):
 class Function:
     def __init__(self, crate, owner, name, head, body):
         self.crate, self.owner, self.name, self.head, self.body = crate, owner, name, head, body
-        self.short = f"{owner + '::' if owner else ''}{name}"
-        self.title = f"{crate} {self.short}"
+        self.title = f"{crate} {owner + '::' if owner else ''}{name}"
         self.takes_self = re.search(r"\(\s*(?:mut )?(?:&\s*(?:'\w+ )?(?:mut )?)?self\b", head) is not None
         self.calls = {(call["owner"], call["name"], call["dot"] is not None) for call in CALL.finditer(body) if call["name"] not in WORDS}
 
@@ -311,12 +309,12 @@ def faults(sources):
         if ALLOCATOR.search(fields):
             yield f"{title} keeps an allocator"
     for function in sources.functions:
-        if given(function) and function.short not in GIVEN:
+        if given(function) and function.title not in GIVEN:
             yield f"{function.title} is given an allocator, and isn't listed"
         if given(function) and behind_work(function):
             yield f"{function.title} hands its allocator on behind the work"
-    names = {function.short for function in sources.functions if given(function)}
-    yield from (f"{name} is listed, and isn't given an allocator" for name in GIVEN if name not in names)
+    titles = {function.title for function in sources.functions if given(function)}
+    yield from (f"{title} is listed, and isn't given an allocator" for title in GIVEN if title not in titles)
     yield from (f"{title} is where work begins, and isn't there" for title in WORK if title not in {each.title for each in sources.functions})
     places = {(f.crate, f"{place['who']}.{place['name']}") for f in reached for place in RECEIVER.finditer(f.body)}
     yield from (f"{who} of {crate} is listed, and the work doesn't call it" for crate, who in GROWS if (crate, who) not in places)

@@ -3,13 +3,15 @@
 usage: residue.py PROGRAM. What is looked for: any 8 bytes in a row of each key that was entered, derived, unwrapped or generated, of
 its padded blocks in HMAC and of what the hash keeps of these, of its round keys under AES, of its hash subkey's multiples, and of the
 generator's states before the last. Words are looked for in either order of their bytes, and in the dialogue in lines hex digits too.
-Beside that the stack below what waits for a command is to be zero after each, as deep as any service reached.
+Beside that the stack below what waits for a command is to be zero after each, as deep as any service reached. Of a run that restores a
+backup the two keys of the backup are looked for in the same way, from its first line on.
 """
 import hashlib
 import hmac
 import os
 import re
 import signal
+import subprocess
 import sys
 import tempfile
 import time
@@ -422,11 +424,65 @@ def lines():
     module.end()
 
 
+def wait_for_lines(pid):
+    """Waits until the program waits for its first line, past all files."""
+    for _ in range(5000):
+        with of_process(pid, "syscall") as call:
+            if call.read().split()[:2] == ["0", "0x0"]:
+                return
+        time.sleep(0.001)
+    raise Wrong("the program does not wait for its first line")
+
+
+def backed_up(words, lines, keys):
+    """The backup of lines. While these are waited for, both keys of the backup are in memory."""
+    with subprocess.Popen(words, stdin=subprocess.PIPE, stdout=subprocess.PIPE) as process:
+        wait_for_lines(process.pid)
+        for traces in keys:
+            if not list(traces.in_memory(writable_memory(process.pid))):
+                raise Wrong("keys of a backup that is to be written were not found in memory")
+        return process.communicate(lines)[0]
+
+
+def expect_gone(module, keys, when):
+    for traces in keys:
+        for found in traces.in_memory(writable_memory(module.process.pid)):
+            raise Wrong(f"{when} there is still: {found}")
+
+
+def traces_of(name, kind, key):
+    traces = Traces()
+    traces.add_key(name, kind, key)
+    return traces
+
+
+def backup_keys():
+    """Of the keys of a backup nothing is left as the first line is waited for, nor later; the restored key is there until it is zeroised."""
+    key, header, both = key_of("kept", 32), entry_header(3, Kind.MacKey, Domain.Approved, True, 9, 32), key_of("keys of a backup", 64)
+    files = [in_room("image", b"abc"), in_room("digest", image_digest(b"abc").encode()), in_room("noise", key_of("noise", 4000))]
+    keys = [traces_of("the key that wraps", Kind.WrappingKey, both[:32]), traces_of("the key of the tag", Kind.MacKey, both[32:])]
+    entry = ["begin 3 mac approved export 9 32", f"bytes {key.hex()}", f"commit {check_value(header, key).hex()}"]
+    lines = "".join(f"{line}\n" for line in ("poweron 0", "tests", "step", "step", "step", "role officer", *entry))
+    backup = backed_up([PROGRAM, "backup", in_room("keys", both), *files], lines.encode(), keys)
+    module = Module([PROGRAM, "restore", in_room("keys", both), in_room("backup", backup), *files])
+    wait_for_lines(module.process.pid)
+    expect_gone(module, keys, "before the first line behind a restored backup")
+    for line in ("slot 3", "role user", "mac 3 sha256 8 616263", "role officer"):
+        say(module, line)
+        expect_gone(module, keys, f"after the line {line.split()[0]} behind a restored backup")
+    restored = traces_of("the restored key", Kind.MacKey, key)
+    if not list(restored.in_memory(writable_memory(module.process.pid))):
+        raise Wrong("a restored key was not found in memory")
+    say(module, "zeroiseall")
+    expect_gone(module, [*keys, restored], "after the line zeroiseall")
+    module.end()
+
+
 def main():
     signal.signal(signal.SIGALRM, too_late)
     signal.alarm(SECONDS)
     failed = 0
-    for case in (ways_to_zeroise, dead_stack, ended_entries, lines):
+    for case in (ways_to_zeroise, dead_stack, ended_entries, lines, backup_keys):
         try:
             case()
         except NotPermitted as error:
