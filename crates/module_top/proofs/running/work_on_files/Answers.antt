@@ -24,7 +24,7 @@ returns-in_err-digest g c =
     let is : c.from_residual-in_err-digest.result ≡ Err why = is_fault _ _ c.from_residual-in_err-digest.ensures in
     record {
       outcome = rw is (digest_refused g.E.Engine.calls c.args.engine files c.args.work names why _ _ has
-      (subst From c.in_ok-image.ensures.faults_unchanged (subst On c.load_image.ensures.kept c.in_err-digest.ensures.refused)));
+          (subst From c.in_ok-image.ensures.faults_unchanged (subst On c.load_image.ensures.kept c.in_err-digest.ensures.refused)));
     }
 
 pub returns-in_err-keys : goal.returns-in_err-keys
@@ -44,7 +44,7 @@ returns-in_err-keys g c =
     let is : c.from_residual-in_err-keys.result ≡ Err why = is_fault _ _ c.from_residual-in_err-keys.ensures in
     record {
       outcome = rw is (keys_refused g.E.Engine.calls c.args.engine files c.args.work names why _ _ has
-      (subst From (c.in_ok-digest.ensures.faults_unchanged ∙ c.in_ok-image.ensures.faults_unchanged) (subst On (c.load_digest.ensures.kept ∙ c.load_image.ensures.kept) c.in_err-keys.ensures.refused)));
+          (subst From (c.in_ok-digest.ensures.faults_unchanged ∙ c.in_ok-image.ensures.faults_unchanged) (subst On (c.load_digest.ensures.kept ∙ c.load_image.ensures.kept) c.in_err-keys.ensures.refused)));
     }
 
 pub returns : goal.returns
@@ -106,4 +106,4 @@ returns g c =
       read_faults = g.S.Source.faults done.new.commands;
       write_faults = g.K.Sink.faults done.new.replies;
     }) in
-    record { outcome = subst OnFaults faults (subst OnFiles kept outcome); }
+    record { outcome = subst OnFaults faults (subst OnFiles kept outcome) }
