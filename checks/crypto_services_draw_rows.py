@@ -13,15 +13,10 @@ import sys
 
 sys.path.insert(0, os.path.dirname(os.path.abspath(__file__)))
 with contextlib.redirect_stdout(io.StringIO()):
-    from drbg_rows import Generator
+    from drbg_rows import Generator, row
 
 NOISE = bytes(i % 256 for i in range(4096))
 
-
-def row(name, content):
-    """A table, and the function that hands it out: a proof pays for the table where it is named."""
-    print(f"static {name}: [u8; {len(content)}] = [{', '.join(f'0x{byte:02x}' for byte in content)}];\n")
-    print(f"pub(super) fn {name.lower()}() -> &'static [u8] {{\n    &{name}\n}}\n")
 
 
 def seeded():

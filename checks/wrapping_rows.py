@@ -13,7 +13,7 @@ TABLES = [
 
 for name, said, wrapped in TABLES:
     print(f"# {name}")
-    print(f"// {said}\nstatic {name}: [u8; {len(wrapped)}] = [")
+    print(f"// {said}\nconst {name}: [u8; {len(wrapped)}] = [")
     for at in range(0, len(wrapped), 16):
         print("    " + " ".join(f"0x{byte:02x}," for byte in wrapped[at:at + 16]))
     print("];\n")
