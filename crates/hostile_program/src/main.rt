@@ -124,7 +124,7 @@ fn tell_all(rt: &HostRuntime, description: &str) -> Option<()> {
     let world = world_of(rt, sweep.input)?;
     println!(rt; "{description}").ok()?;
     for turn in sweep.first..=sweep.last {
-        if (turn - sweep.first) % sweep.by == 0 {
+        if (turn - sweep.first).checked_rem(sweep.by) == Some(0) {
             tell(rt, &sweep, &world, turn)?;
         }
     }
