@@ -68,10 +68,9 @@ def session(seed, count):
     return commands
 
 
-def summary(seed, count, image, digest, noise) -> bytes:
-    """Twenty lines on the replies to a session; the digest has 32 bytes, the noise is a list of samples."""
-    machine = Machine(image, digest, noise)
-    replies = [machine.command(service, body) for service, body in session(seed, count)]
+def summary_of(machine, commands) -> bytes:
+    """Twenty lines on the replies of a module to commands."""
+    replies = [machine.command(service, body) for service, body in commands]
     statuses = [reply.status for reply in replies]
     lines = [f"commands {len(replies)}"]
     lines += [f"status {status:d} {statuses.count(status)}" for status in STATUSES]
@@ -79,3 +78,8 @@ def summary(seed, count, image, digest, noise) -> bytes:
     lines.append(f"state {name_of(machine.state)}")
     lines.append(f"sha256 {hashlib.sha256(b''.join(reply.spelling() for reply in replies)).hexdigest()}")
     return "".join(f"{line}\n" for line in lines).encode()
+
+
+def summary(seed, count, image, digest, noise) -> bytes:
+    """The summary of a session; the digest has 32 bytes, the noise is a list of samples."""
+    return summary_of(Machine(image, digest, noise), session(seed, count))

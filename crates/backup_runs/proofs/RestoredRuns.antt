@@ -1,5 +1,5 @@
 -- From what restoring leaves to its run, which is one.
-use Rattle.std.proofs.Common.{◌≡◌, ◌≢◌, ◌+◌, ◌++◌, ◌≤◌, ℕ, List, [], ◌∷◌, Some, refl, sym, ◌∙◌, ap, subst, length, take, length-take, append-nil, slice_index_or, cc, arith}
+use Rattle.std.proofs.Common.{◌≡◌, ◌≢◌, ◌+◌, ◌++◌, ◌≤◌, ℕ, suc, List, [], ◌∷◌, Some, refl, sym, ◌∙◌, ap, subst, length, take, length-take, append-nil, slice_index_or, arith}
 use Rattle.std.specs.Prelude.{Result, Ok, Err, drop}
 use Rattle.bits_core.specs.ByteList.{IsBytes}
 use Rattle.bits_core.proofs.Bytes.{IsBytes-take}
@@ -41,7 +41,7 @@ same_slots [] [] long each = refl
 same_slots [] (y ∷ ys) long each = absurd (omega (arith, long))
 same_slots (x ∷ xs) [] long each = absurd (omega (arith, long))
 same_slots (x ∷ xs) (y ∷ ys) long each =
-    ap (λ (z : Slot). z ∷ xs) (each 0) ∙ ap (λ (zs : List Slot). y ∷ zs) (same_slots xs ys (omega (arith, long)) (λ i. each (i + 1)))
+    ap (λ (z : Slot). z ∷ xs) (each 0) ∙ ap (λ (zs : List Slot). y ∷ zs) (same_slots xs ys (omega (arith, long)) (λ i. each (suc i)))
 
 -- the first 32 bytes of the keys are a key
 kek_is_key : (keys : List ℕ) → IsBytes keys → length keys ≡ 64 → IsKey (kek_of keys)
@@ -61,10 +61,7 @@ pub never_both : {V : Type 0} (keys backup : List ℕ) (s t : MachineState V) �
 never_both keys backup s t bytes long one other =
     let same = answers_one_way (kek_of keys) (mac_of keys) backup (vault_of s) (vault_of (restored_state s one.slots)) (vault_of s) (Ok one.count) (Err other.why)
     (kek_is_key keys bytes long) one.restores other.refuses in
-    differ one.count other.why same.0
-  where
-    differ : (count : ℕ) (why : RestoreFault) → Ok {A = ℕ} {E = RestoreFault} count ≡ Err why → ⊥
-    differ count why e = cc e
+    let clash = same.0 in cc clash
 
 -- the run has one answer and one output
 pub one_restored_run : {V : Type 0} (calls : Calls V) (keys backup : List ℕ) (s : MachineState V) (events : List Sample) (bytes : List ℕ) (answer answer' : Restored) (out out' : List ℕ)

@@ -94,10 +94,10 @@ pub fn back_up<E: Engine, N: Noise, S: Source, K: Sink>(
     requires keys { length keys.old ≡ KEYS_LENGTH }
     requires new { codec.old ≡ new_fragment }
     requires chunk { 0 < length chunk.old }
-    ensures backed_up { (s : MachineState E) → Represents «module».old s → Explained (N.left noise.old) (N.left noise.new)
-        (BacksUp E.calls result (length chunk.old) keys.old s «module».new
+    ensures backed_up { Explained (N.left noise.old) (N.left noise.new) (λ events left. (s : MachineState E) → Represents «module».old s →
+        BacksUp E.calls result (length chunk.old) keys.old s «module».new
         (record { left = S.left lines.old; gained = K.gained backup.old })
-        (record { left = S.left lines.new; gained = K.gained backup.new })) }
+        (record { left = S.left lines.new; gained = K.gained backup.new }) events left) }
 
     // Each fault comes only where that object's count rose.
     ensures read_fault { result ≡ BackedUp.ReadFault → FaultCounted (S.faults lines.old) (S.faults lines.new) }

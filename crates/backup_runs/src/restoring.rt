@@ -78,17 +78,17 @@ pub fn restore_and_operate<E: Engine, N: Noise, S: Source, K: Sink>(
     requires keys { length keys.old ≡ KEYS_LENGTH }
     requires new { codec.old ≡ new_fragment }
     requires chunk { 0 < length chunk.old }
-    ensures restored { (s : MachineState E) → Represents «module».old s → Explained (N.left noise.old) (N.left noise.new)
-        (RestoresAndOperates E.calls result (length chunk.old) keys.old backup.now s «module».new
+    ensures restored { Explained (N.left noise.old) (N.left noise.new) (λ events left. (s : MachineState E) → Represents «module».old s →
+        RestoresAndOperates E.calls result (length chunk.old) keys.old backup.now s «module».new
         (record { left = S.left lines.old; gained = K.gained replies.old })
-        (record { left = S.left lines.new; gained = K.gained replies.new })) }
+        (record { left = S.left lines.new; gained = K.gained replies.new }) events left) }
 
     // With an engine that answers as the standards say, each stream of lines that differs from the bytes read in secrets alone would have run
     // alike from what was restored, and got equal replies to each command that observes nothing tainted.
-    ensures secrets { IsStandard E.calls → (s : MachineState E) → Represents «module».old s → Explained (N.left noise.old) (N.left noise.new)
-        (KeepsRestoredSecrets E.calls result keys.old backup.now s
+    ensures secrets { IsStandard E.calls → Explained (N.left noise.old) (N.left noise.new) (λ events left. (s : MachineState E) → Represents «module».old s →
+        KeepsRestoredSecrets E.calls result keys.old backup.now s
         (record { left = S.left lines.old; gained = K.gained replies.old })
-        (record { left = S.left lines.new; gained = K.gained replies.new })) }
+        (record { left = S.left lines.new; gained = K.gained replies.new }) events left) }
 
     // Without a restored backup no stream is touched.
     ensures untouched { ((answer : Operated) → result ≢ Restored.Operated answer) → (lines.new ≡ lines.old) × (replies.new ≡ replies.old) }

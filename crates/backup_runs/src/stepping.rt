@@ -27,8 +27,8 @@ pub fn step_over_lines<E: Engine, N: Noise, S: Source>(
 ) -> Ended
     requires new { codec.old ≡ new_fragment }
     requires chunk { 0 < length chunk.old }
-    ensures stepped { (s : MachineState E) → Represents «module».old s → Explained (N.left noise.old) (N.left noise.new)
-        (StepsOver E.calls result (length chunk.old) s «module».new (S.left lines.old) (S.left lines.new)) }
+    ensures stepped { Explained (N.left noise.old) (N.left noise.new) (λ events left. (s : MachineState E) → Represents «module».old s →
+        StepsOver E.calls result (length chunk.old) s «module».new (S.left lines.old) (S.left lines.new) events left) }
     ensures read_fault { result ≡ Ended.ReadFault → FaultCounted (S.faults lines.old) (S.faults lines.new) }
     ensures reads_unchanged { result ≢ Ended.ReadFault → S.faults lines.new ≡ S.faults lines.old }
     ensures no_write { result ≢ Ended.WriteFault }

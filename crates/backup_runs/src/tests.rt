@@ -50,14 +50,12 @@ fn noise_of(alloc: Global) -> Result<MemNoise, AllocError> {
 }
 
 // The keys of the bytes 00 to 3f.
-fn keys_of(alloc: Global) -> Result<Vec<u8>, AllocError> {
-    let mut keys = vec![in alloc; 0; 64]?;
-    let mut byte: u8 = 0;
+fn keys_of() -> [u8; 64] {
+    let mut keys = [0; 64];
     for place in 0..64 {
-        keys[place] = byte;
-        byte = byte.wrapping_add(1);
+        keys[place] = place as u8;
     }
-    Ok(keys)
+    keys
 }
 
 // Lines that come seven bytes at a time.
@@ -76,7 +74,7 @@ fn backed_up(
     out: &mut MemSink,
 ) -> Result<(BackedUp, bool), AllocError> {
     let mut noise = noise_of(alloc)?;
-    let mut keys = keys_of(alloc)?;
+    let mut keys = keys_of();
     let mut codec = LineCodec::new(alloc)?;
     let mut reply = Reply::new(alloc)?;
     let mut chunk = vec![in alloc; 0; 100]?;
@@ -94,7 +92,7 @@ fn backed_up(
     );
     module.shut();
     module.close();
-    Ok((answer, keys.as_slice() == [0; 64].as_slice()))
+    Ok((answer, keys == [0; 64]))
 }
 
 // Restores a backup and serves lines, with a module that isn't powered.
@@ -105,7 +103,7 @@ fn restored(
     out: &mut MemSink,
 ) -> Result<(Restored, bool), AllocError> {
     let mut noise = noise_of(alloc)?;
-    let mut keys = keys_of(alloc)?;
+    let mut keys = keys_of();
     let mut codec = LineCodec::new(alloc)?;
     let mut command = Command::new(alloc)?;
     let mut reply = Reply::new(alloc)?;
@@ -126,7 +124,7 @@ fn restored(
     );
     module.shut();
     module.close();
-    Ok((answer, keys.as_slice() == [0; 64].as_slice()))
+    Ok((answer, keys == [0; 64]))
 }
 
 #[test]

@@ -102,9 +102,9 @@ pub fn serve_stream<E: Engine, N: Noise, S: Source, K: Sink, C: Codec>(
 ) -> Ended
     requires new { C.holds codec.old ≡ new_fragment }
     requires chunk { 0 < length chunk.old }
-    ensures served { (s : MachineState E) → Represents «module».old s → Explained (N.left noise.old) (N.left noise.new) (Serves C.grammar E.calls result (length chunk.old) s «module».new
+    ensures served { Explained (N.left noise.old) (N.left noise.new) (λ events left. (s : MachineState E) → Represents «module».old s → Serves C.grammar E.calls result (length chunk.old) s «module».new
         (record { left = S.left commands.old; gained = K.gained replies.old })
-        (record { left = S.left commands.new; gained = K.gained replies.new })) }
+        (record { left = S.left commands.new; gained = K.gained replies.new }) events left) }
     ensures read_fault { result ≡ Ended.ReadFault → FaultCounted (S.faults commands.old) (S.faults commands.new) }
     ensures reads_unchanged { result ≢ Ended.ReadFault → S.faults commands.new ≡ S.faults commands.old }
     ensures write_fault { result ≡ Ended.WriteFault → FaultCounted (K.faults replies.old) (K.faults replies.new) }

@@ -71,15 +71,15 @@ pub fn operate<E: Engine, N: Noise, S: Source, K: Sink>(
 ) -> Operated
     requires new { codec.old ≡ new_fragment }
     requires chunk { 0 < length chunk.old }
-    ensures served { (s : MachineState E) → Represents «module».old s → Explained (N.left noise.old) (N.left noise.new) (Operates E.calls result (length chunk.old) s «module».new
+    ensures served { Explained (N.left noise.old) (N.left noise.new) (λ events left. (s : MachineState E) → Represents «module».old s → Operates E.calls result (length chunk.old) s «module».new
         (record { left = S.left lines.old; gained = K.gained replies.old })
-        (record { left = S.left lines.new; gained = K.gained replies.new })) }
+        (record { left = S.left lines.new; gained = K.gained replies.new }) events left) }
 
     // With an engine that answers as the standards say, each stream that differs from the bytes read in secrets alone would have run
     // alike, and got equal replies to each command that observes nothing tainted.
-    ensures secrets { IsStandard E.calls → (s : MachineState E) → Represents «module».old s → Explained (N.left noise.old) (N.left noise.new) (KeepsLineSecrets E.calls result s
+    ensures secrets { IsStandard E.calls → Explained (N.left noise.old) (N.left noise.new) (λ events left. (s : MachineState E) → Represents «module».old s → KeepsLineSecrets E.calls result s
         (record { left = S.left lines.old; gained = K.gained replies.old })
-        (record { left = S.left lines.new; gained = K.gained replies.new })) }
+        (record { left = S.left lines.new; gained = K.gained replies.new }) events left) }
 
     // Each fault comes only where that object's count rose.
     ensures read_fault { result ≡ Operated.ReadFault → FaultCounted (S.faults lines.old) (S.faults lines.new) }

@@ -1,6 +1,7 @@
 -- What a run leaves, by where it ended; and from there the program's output.
 use Rattle.std.proofs.Common.{◌≡◌, ◌≢◌, ◌≤◌, ◌++◌, inl, inr, Bool, true, false, ℕ, List, [], Option, Some, None, IfSome, refl, sym, ◌∙◌, ap, subst, length, arith, append-nil}
-use Rattle.std.specs.Prelude.{◌↔◌, ◌⊎◌, MatchOption}
+use Rattle.std.specs.Prelude.{◌↔◌, ◌⊎◌, MatchOption, Result, Ok, Err, IsErr}
+use Rattle.std.specs.Result.{IsErrAnd}
 use Rattle.engine_core.specs.Calls.{Calls}
 use Rattle.outside.specs.Faults.{FaultCounted}
 use Rattle.outside.specs.FilesContent.{FilesContent, HasFile, HasFileAbove}
@@ -28,7 +29,7 @@ use Rattle.module_top.specs.Outcomes.{reads_source, AreKeysOf, AreLoaded, Backup
 use Rattle.module_top.proofs.NamedFiles.{not_above, image_fits, digest_is, keys_are, long_no_digest, long_no_keys, long_no_backup}
 
 -- where files tell, a fact about them gives another
-told : {P Q : FilesContent → Type 0} (files : Option FilesContent) → ((all : FilesContent) → P all → Q all) → IfSome files P → IfSome files Q
+pub told : {P Q : FilesContent → Type 0} (files : Option FilesContent) → ((all : FilesContent) → P all → Q all) → IfSome files P → IfSome files Q
 told None each h = tt
 told (Some all) each h = each all h
 
@@ -130,8 +131,13 @@ pub digest_image_refused : {V S K : Type 0} (calls : Calls V) (engine : V) (file
 digest_image_refused calls engine files image_name why before faults refusal =
     image_refused calls engine files (Digest image_name) image_name why before faults (λ all long. long) refusal
 
+-- a result that is this fault
+pub is_fault : {X : Type 0} (r : Result X RunFault) (why : RunFault) → IsErr r × IsErrAnd r (λ fault. fault ≡ why) → r ≡ Err why
+is_fault (Ok done) why h = absurd h.1
+is_fault (Err fault) why h = ap (λ f. Err f) h.1
+
 -- two facts about the files, where they tell
-both : (P Q : FilesContent → Type 0) (files : Option FilesContent) → IfSome files P → IfSome files Q → IfSome files (λ all. P all × Q all)
+pub both : (P Q : FilesContent → Type 0) (files : Option FilesContent) → IfSome files P → IfSome files Q → IfSome files (λ all. P all × Q all)
 both P Q None p q = tt
 both P Q (Some all) p q = (p, q)
 
@@ -221,12 +227,18 @@ backup_refused {V} {S} {K} calls engine files work names image text digest keys 
   where
     too_long : faults ≡ before.file_faults → IfSome files (λ all. HasLongFile all names.backup) → IsOutcome calls engine files (Some (OnModule work names)) 15 before (record before { file_faults = faults })
     too_long same long = record {
-      usage = (λ e. omega arith, λ none. cc);
+      usage = (λ e. absurd (omega (arith, e)), λ none. cc);
       untouched = λ _. (refl, refl);
       source_stays = λ _ _ _. refl;
       suits = later files work names image text digest keys 15 loaded (λ e. omega arith) (λ e. omega arith) (λ e. omega arith) (any_files files (λ all _. refl));
-      done = λ _. inr ((refl, told files (λ all found. (found.0.0, found.0.1, found.0.2, found.1))
-          (both (λ all. HasImage all names.image × HasDigest all names.digest × HasKeyFile all names.keys) (λ all. HasLongFile all names.backup) files (loaded_there files names image text digest keys loaded) long)), refl);
+      done = λ _. inr (
+        (
+          refl,
+          told files (λ all found. (found.0.0, found.0.1, found.0.2, found.1))
+              (both (λ all. HasImage all names.image × HasDigest all names.digest × HasKeyFile all names.keys) (λ all. HasLongFile all names.backup) files (loaded_there files names image text digest keys loaded) long),
+        ),
+        refl,
+      );
       file_fault = λ e. omega arith;
       files_unchanged = λ _. same;
       read_fault = λ e. omega arith;
@@ -240,6 +252,11 @@ no_refusal : (status other : ℕ) → is_refusal status ≡ false → is_refusal
 no_refusal status other isn't is e =
     let never : false ≡ true = sym isn't ∙ ap is_refusal e ∙ is in
     cc
+
+-- where files tell, three facts about them
+pub told_all : (P Q R : FilesContent → Type 0) (files : Option FilesContent) → IfSome files P → IfSome files Q → IfSome files R → IfSome files (λ all. P all × Q all × R all)
+told_all P Q R None p q r = tt
+told_all P Q R (Some all) p q r = (p, q, r)
 
 -- some events of a noise explain what was done with it: where the files tell, those of its name
 pub some_events : {Explains : List Sample → List Sample → Type 0} (files : Option FilesContent) (name : List ℕ) (before now : Option (List Sample)) → Explained before now Explains
@@ -391,11 +408,20 @@ backup_too_long : {V : Type 0} (calls : Calls V) (engine : V) (files : FilesCont
     → IsOutputOf calls engine (Some (OnModule work names)) files bytes status []
 backup_too_long {V} calls engine files work names status bytes fifteen long =
     let (image, has_image, fits) = long.0 in
-    let (text, has_text, digest, spelled) = long.1 in
+    let (text, has_text, (digest, spelled)) = long.1 in
     let Rest : List ℕ → Type 0 = λ digest. WithKeys files names.keys status [] (λ keys. WithBackup files names.backup status [] (λ backup. WorksOn work calls engine files names.noise bytes status [] image digest keys backup)) in
     let Spells : Option (List ℕ) → Type 0 = λ found. MatchOption found (IsRefused 11 status []) Rest in
-    inr (image, has_image, fits, (text, has_text, subst Spells (sym spelled) (past_keys names.keys long.2 (λ keys. WithBackup files names.backup status [] (λ backup. WorksOn work calls engine files names.noise bytes status [] image digest keys backup))
-    (λ keys. too_long names.backup long.3 _))))
+    inr (
+      image,
+      has_image,
+      fits,
+      (
+        text,
+        has_text,
+        subst Spells (sym spelled) (past_keys names.keys long.2 (λ keys. WithBackup files names.backup status [] (λ backup. WorksOn work calls engine files names.noise bytes status [] image digest keys backup))
+            (λ keys. too_long names.backup long.3 _)),
+      ),
+    )
   where
     too_long : (name : Option (List ℕ)) → HasLongFile files name → (Follows : List ℕ → Type 0) → WithBackup files name status [] Follows
     too_long None h Follows = absurd h
@@ -482,7 +508,7 @@ refusal_output {V} calls engine files of status bytes why no_form long bad bad_k
     keys_output None h thirteen = absurd h
     keys_output (Some (OnModule work names)) h thirteen =
         let (image, has_image, fits) = h.0 in
-        let (text, has_text, digest, spelled) = h.1 in
+        let (text, has_text, (digest, spelled)) = h.1 in
         let Rest : List ℕ → Type 0 = λ digest. WithKeys files names.keys status [] (λ keys. WithBackup files names.backup status [] (λ backup. WorksOn work calls engine files names.noise bytes status [] image digest keys backup)) in
         let Spells : Option (List ℕ) → Type 0 = λ found. MatchOption found (IsRefused 11 status []) Rest in
         inr (image, has_image, fits, (text, has_text, subst Spells (sym spelled) (no_keys names.keys h.2 _)))
@@ -505,7 +531,7 @@ program_output {V} calls engine files of status before after bytes gained outcom
     by true is = (
       [],
       refusal_output calls engine files of status bytes (refusals status is no_memory no_file) outcome.usage.0 (outcome.suits no_memory no_file).image_too_long.0 (outcome.suits no_memory no_file).bad_digest.0
-      (outcome.suits no_memory no_file).bad_keys.0,
+          (outcome.suits no_memory no_file).bad_keys.0,
       stays (outcome.untouched (inl is)).1 ∙ ap (λ (s : Streams). s.gained) tells ∙ ap Some (sym (append-nil gained)),
     )
     by false isn't =

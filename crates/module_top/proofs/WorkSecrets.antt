@@ -84,7 +84,7 @@ work_alike (work.Session seed count) keys backup calls plain s t events left byt
     record { replies = []; end = out; written = refl; alike = λ other pairs variant. absurd variant }
 work_alike work.Backup keys backup calls plain s t events left bytes status out sixteen begins runs =
     record { replies = []; end = out; written = refl; alike = λ other pairs variant. absurd variant }
-work_alike {V} work.Restore keys backup calls plain s t events left bytes status out sixteen begins (are, answer, is, runs) = by_answer answer is runs
+work_alike {V} work.Restore keys backup calls plain s t events left bytes status out sixteen begins (are, (answer, is, runs)) = by_answer answer is runs
   where
     -- lines were served from t
     from : (last : Operated) (u : MachineState V) (mid : List Sample) → BeginsRestored calls keys backup s events u mid → status ≡ restored_status (restored.Operated last) → RunsLines calls u mid bytes last out
@@ -99,7 +99,7 @@ work_alike {V} work.Restore keys backup calls plain s t events left bytes status
           written = kept.written;
           alike = λ other pairs variant.
               let served : OtherLinesRun calls t left other pairs last kept.replies = kept.alike other pairs variant in
-              record { others = served.others; runs = (are, restored.Operated last, ends, (t, left, begins, served.runs)); agree = served.agree; one_command = served.one_command };
+              record { others = served.others; runs = (are, (restored.Operated last, ends, (t, left, begins, served.runs))); agree = served.agree; one_command = served.one_command };
         }
 
     by_answer : (a : Restored) → status ≡ restored_status a → RunsRestored calls keys backup s events bytes a out → WorkAlike work.Restore keys backup calls s t events left bytes status out

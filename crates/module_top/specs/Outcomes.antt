@@ -1,5 +1,5 @@
 -- What a run of the program leaves, whatever its files and its streams tell.
-use Rattle.std.specs.Prelude.{◌≡◌, ◌≢◌, ◌≤◌, ◌↔◌, ◌⊎◌, ◌==◌, ◌||◌, ℕ, Bool, true, false, List, Option, Some, None, IfSome, length}
+use Rattle.std.specs.Prelude.{◌≡◌, ◌≢◌, ◌≤◌, ◌↔◌, ◌⊎◌, ◌==◌, ◌||◌, ℕ, Bool, true, false, List, [], Option, Some, None, IfSome, length}
 use Rattle.engine_core.specs.Calls.{Calls}
 use Rattle.outside.specs.Explained.{Explained}
 use Rattle.outside.specs.Faults.{FaultCounted}

@@ -9,8 +9,8 @@ use crate::loading::load_image;
 use engine_core::Engine;
 use hex::encode_to_slice;
 use outside::{Files, Sink};
-use self_tests::image_digest;
 use program_words::RunFault;
+use self_tests::image_digest;
 use std::alloc::Global;
 use stream_calls::write_all;
 

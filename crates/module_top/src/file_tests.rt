@@ -1,8 +1,8 @@
 // Words and files: what each of them is refused for, in which order, and the line of a digest.
-use program_words::digest_of;
 use crate::run;
 use engine_core::Shipped;
 use outside::{MemFiles, MemSink, MemSource, Sample};
+use program_words::digest_of;
 use std::alloc::Global;
 use std::test::Fail;
 

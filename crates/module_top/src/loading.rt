@@ -69,11 +69,11 @@ pub fn load_keys<F: Files>(
     files: &mut F,
     name: Option<&str>,
 ) -> Result<Vec<u8>, RunFault>
-    ensures keys { IfOk result (λ keys. AreKeysOf (option_map (λ n. n.now) name) keys.items) }
-    ensures named { IfSome (F.content files.old) (λ all. IfOk result (λ keys. IsNamedFile all (option_map (λ n. n.now) name) keys.items)) }
+    ensures keys { IfOk result (λ keys. AreKeysOf (option_map (λ n. n.now) name.entry) keys.items) }
+    ensures named { IfSome (F.content files.old) (λ all. IfOk result (λ keys. IsNamedFile all (option_map (λ n. n.now) name.entry) keys.items)) }
     ensures kept { F.content files.new ≡ F.content files.old }
     ensures faults_unchanged { OnOk result (F.faults files.new ≡ F.faults files.old) }
-    ensures refused { IfErr result (λ fault. KeysRefused (F.content files.old) (option_map (λ n. n.now) name) fault (F.faults files.old) (F.faults files.new)) }
+    ensures refused { IfErr result (λ fault. KeysRefused (F.content files.old) (option_map (λ n. n.now) name.entry) fault (F.faults files.old) (F.faults files.new)) }
 {
     let Some(name) = name else {
         return Ok(Vec::new(alloc));
@@ -93,10 +93,10 @@ pub fn load_backup<F: Files>(
     name: Option<&str>,
 ) -> Result<Vec<u8>, RunFault>
     ensures fits { IfOk result (λ backup. length backup.items ≤ BACKUP_MOST) }
-    ensures named { IfSome (F.content files.old) (λ all. IfOk result (λ backup. IsNamedFile all (option_map (λ n. n.now) name) backup.items)) }
+    ensures named { IfSome (F.content files.old) (λ all. IfOk result (λ backup. IsNamedFile all (option_map (λ n. n.now) name.entry) backup.items)) }
     ensures kept { F.content files.new ≡ F.content files.old }
     ensures faults_unchanged { OnOk result (F.faults files.new ≡ F.faults files.old) }
-    ensures refused { IfErr result (λ fault. BackupRefused (F.content files.old) (option_map (λ n. n.now) name) fault (F.faults files.old) (F.faults files.new)) }
+    ensures refused { IfErr result (λ fault. BackupRefused (F.content files.old) (option_map (λ n. n.now) name.entry) fault (F.faults files.old) (F.faults files.new)) }
 {
     let Some(name) = name else {
         return Ok(Vec::new(alloc));

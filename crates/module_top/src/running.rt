@@ -73,7 +73,7 @@ fn work_on_files<E: Engine, F: Files, S: Source, K: Sink>(
     replies: &mut K,
     engine: E,
 ) -> Result<(), RunFault>
-    requires keys { HasKeys work (names_value names.entry) }
+    requires keys { HasKeys work (names_value names) }
     ensures outcome { IsOutcome E.calls engine (F.content files.old) (Some (OnModule work (names_value names.entry))) (result_status result)
         (record {
           source = commands.old;

@@ -24,6 +24,6 @@ one_work (work.Session seed count) keys backup calls s events bytes status statu
 one_work work.Backup keys backup calls s events bytes status status' out out' (answer, is, runs) (answer', is', runs') =
     let same = one_backup calls keys s events bytes answer answer' out out' runs runs' in
     (is ∙ ap backup_status same.0 ∙ sym is', same.1)
-one_work work.Restore keys backup calls s events bytes status status' out out' (are, answer, is, runs) (are', answer', is', runs') =
+one_work work.Restore keys backup calls s events bytes status status' out out' (are, (answer, is, runs)) (are', (answer', is', runs')) =
     let same = one_restored_run calls keys backup s events bytes answer answer' out out' are.bytes are.long runs runs' in
     (is ∙ ap restored_status same.0 ∙ sym is', same.1)

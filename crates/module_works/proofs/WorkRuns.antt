@@ -34,6 +34,6 @@ work_of (work.Session seed count) keys backup calls s events status m bytes befo
 work_of work.Backup keys backup calls s events status m bytes before left after (answer, is, backs) no_read no_write =
     let made = backup_run calls keys s events answer CHUNK m bytes before left after backs (λ e. no_read (is ∙ ap backup_status e)) (λ e. no_write (is ∙ ap backup_status e)) in
     (made.0, (answer, is, made.1), made.2)
-work_of work.Restore keys backup calls s events status m bytes before left after (are, answer, is, restores) no_read no_write =
+work_of work.Restore keys backup calls s events status m bytes before left after (are, (answer, is, restores)) no_read no_write =
     let made = restored_run calls keys backup s events answer CHUNK m bytes before left after restores (λ e. no_read (is ∙ ap restored_status e)) (λ e. no_write (is ∙ ap restored_status e)) in
-    (made.0, (are, answer, is, made.1), made.2)
+    (made.0, (are, (answer, is, made.1)), made.2)

@@ -50,9 +50,7 @@ pub fn do_work<E: Engine, N: Noise, S: Source, K: Sink>(
         Work::Session { seed, count } => {
             summarise(alloc, seed, count, engine, image, digest, noise, replies)
         }
-        Work::Backup => back_up_lines(
-            alloc, keys, engine, image, digest, noise, commands, replies,
-        ),
+        Work::Backup => back_up_lines(alloc, keys, engine, image, digest, noise, commands, replies),
         Work::Restore => operate_restored(
             alloc, keys, backup, engine, image, digest, noise, commands, replies,
         ),

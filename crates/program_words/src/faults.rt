@@ -102,7 +102,8 @@ impl fmt::Display for RunFault {
     fn fmt<W: fmt::Write>(&self, f: &mut fmt::Formatter<W>) -> fmt::Result {
         f.write_str(match self {
             RunFault::VectorFailed => "a vector failed",
-            RunFault::Usage => "usage: serve, operate, digest, session, vectors, backup, restore or check",
+            RunFault::Usage =>
+                "usage: serve, operate, digest, session, vectors, backup, restore or check",
             RunFault::BadFrame => "bad frame",
             RunFault::Truncated => "truncated frame",
             RunFault::ReadFailed => "read failed",

@@ -29,11 +29,11 @@ loop-taken-init g c =
     }
 
 pub returns-in-Err-clause-served : goal.returns-in-Err-clause-served
-returns-in-Err-clause-served g c s represents =
+returns-in-Err-clause-served g c =
     let i = c.loop-taken.invariant in
     let so_far = i.served in
     let consumes = subst (λ left. Consumes (g.S.Source.left c.args.commands.now) so_far.0 left) (sym c.in-Err.ensures.kept) so_far.1 in
-    explained_by _ _ so_far.4 (λ events left served. (
+    explained_by _ _ so_far.4 (λ events left served s represents. (
       so_far.0,
       so_far.0,
       (g.C.Codec.holds c.loop-taken.codec).bytes,
@@ -44,7 +44,7 @@ returns-in-Err-clause-served g c s represents =
 
 -- the source ended
 pub returns-in-Ok-eq0-clause-served : goal.returns-in-Ok-eq0-clause-served
-returns-in-Ok-eq0-clause-served g c s represents =
+returns-in-Ok-eq0-clause-served g c =
     let grammar = g.C.Codec.grammar in
     let lawful = g.met.C.Codec.lawful in
     let i = c.loop-taken.invariant in
@@ -57,10 +57,10 @@ returns-in-Ok-eq0-clause-served g c s represents =
     let below : length so_far.0 < STREAM_MAX = omega (arith, so_far.2, c.loop-taken-test.true) in
     let all = all_of _ _ so_far.0 so_far.1 over in
     elim (write_failed_or_not c.serve_end.result) [
-      | inl failed ↦ explained_both _ _ _ so_far.4 (c.serve_end.ensures.write_fault failed) (λ events between left first second.
+      | inl failed ↦ explained_both _ _ _ so_far.4 (c.serve_end.ensures.write_fault failed) (λ events between left first second s represents.
           fails_at grammar g.E.Engine.calls lawful c.serve_end.result (length c.args.chunk.now) s _ _ failed represents first second.failed consumes
           (record { read_at_end = sym (second.is_mark so_far.0); below_limit = below; all = all }))
-      | inr none_failed ↦ explained_both _ _ _ so_far.4 (c.serve_end.ensures.ended none_failed) (λ events between left first second.
+      | inr none_failed ↦ explained_both _ _ _ so_far.4 (c.serve_end.ensures.ended none_failed) (λ events between left first second s represents.
           ends_at grammar g.E.Engine.calls c.serve_end.result second.start (length c.args.chunk.now) second.remainder so_far.0 (so_far.0 ++ second.mark) s c.serve_end.new.module _ _ events left second.ends
           (record {
             begins = omega (arith, lawful.advance_both so_far.0 second.mark, second.begins, so_far.3);
@@ -73,7 +73,7 @@ returns-in-Ok-eq0-clause-served g c s represents =
     ]
 
 pub returns-in-Fault-clause-served : goal.returns-in-Fault-clause-served
-returns-in-Fault-clause-served g c s represents =
+returns-in-Fault-clause-served g c =
     let grammar = g.C.Codec.grammar in
     let lawful = g.met.C.Codec.lawful in
     let i = c.loop-taken.invariant in
@@ -84,7 +84,7 @@ returns-in-Fault-clause-served g c s represents =
     let long : length piece ≡ c.in-Ok.count = length-take-le c.in-Ok.count c.read_some.new.chunk (omega (arith, c.in-Ok.ensures.size.0)) in
     let all : length (so_far.0 ++ piece) ≡ c.loop-taken.taken + c.in-Ok.count = omega (arith, so_far.2, long, length-append so_far.0 piece) in
     let start : remainder_start grammar (so_far.0 ++ piece) remainder ≡ start' = omega (arith, lawful.advance_both so_far.0 piece, shown.begins, so_far.3) in
-    explained_both _ _ _ so_far.4 next (λ events between left first second. (
+    explained_both _ _ _ so_far.4 next (λ events between left first second s represents. (
       so_far.0 ++ piece,
       so_far.0 ++ piece,
       remainder,
@@ -99,10 +99,10 @@ returns-in-Fault-clause-served g c s represents =
     ))
 
 pub returns-in-WriteFault-clause-served : goal.returns-in-WriteFault-clause-served
-returns-in-WriteFault-clause-served g c s represents =
+returns-in-WriteFault-clause-served g c =
     let so_far = c.loop-taken.invariant.served in
     let read = so_far.0 ++ take c.in-Ok.count c.read_some.new.chunk in
-    explained_both _ _ _ so_far.4 (c.in-WriteFault.ensures.write_fault refl) (λ events between left first second. (
+    explained_both _ _ _ so_far.4 (c.in-WriteFault.ensures.write_fault refl) (λ events between left first second s represents. (
       read,
       read,
       consumes_both _ _ _ _ _ so_far.1 c.in-Ok.ensures.taken,
@@ -134,10 +134,10 @@ loop-taken-preserved g c =
     }
 
 pub returns-clause-served : goal.returns-clause-served
-returns-clause-served g c s represents =
+returns-clause-served g c =
     let i = c.loop-taken.invariant in
     let so_far = i.served in
-    explained_by _ _ so_far.4 (λ events left served. (
+    explained_by _ _ so_far.4 (λ events left served s represents. (
       so_far.0,
       so_far.0,
       (g.C.Codec.holds c.loop-taken.codec).bytes,

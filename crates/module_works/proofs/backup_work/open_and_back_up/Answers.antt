@@ -1,6 +1,7 @@
 use Rattle.std.proofs.Common.{◌≡◌, ℕ, ap, subst, length, ◌∙◌}
 use Rattle.std.proofs.lemmas.List.{length-replicate}
 use Rattle.outside.specs.Explained.{Explained}
+use Rattle.outside.proofs.Explanations.{explained_by}
 use Rattle.state_model.specs.MachineState.{initial_state}
 use Rattle.backup_runs.specs.BackingUp.{BacksUp}
 use Rattle.module_works.proofs.backup_work.open_and_back_up.Goals as goal
@@ -12,4 +13,4 @@ returns-clause-backed_up g c =
     let By : ℕ → Type 0 = λ n. Explained (g.N.Noise.left c.args.noise.now) (g.N.Noise.left c.back_up-answer.new.noise) (BacksUp g.E.Engine.calls c.back_up-answer.result n c.args.keys.now s c.back_up-answer.new.module
     (record { left = g.S.Source.left c.args.lines.now; gained = g.K.Sink.gained c.args.backup.now })
     (record { left = g.S.Source.left c.back_up-answer.new.lines; gained = g.K.Sink.gained c.back_up-answer.new.backup })) in
-    (c.back_up-answer.new.module, subst By long (c.back_up-answer.ensures.backed_up s c.in_ok-module.ensures.represents))
+    (c.back_up-answer.new.module, subst By long (explained_by _ _ c.back_up-answer.ensures.backed_up (λ events left backs. backs s c.in_ok-module.ensures.represents)))

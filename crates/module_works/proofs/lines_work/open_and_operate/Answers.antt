@@ -1,6 +1,7 @@
 use Rattle.std.proofs.Common.{◌≡◌, ℕ, ap, subst, length, ◌∙◌}
 use Rattle.std.proofs.lemmas.List.{length-replicate}
 use Rattle.outside.specs.Explained.{Explained}
+use Rattle.outside.proofs.Explanations.{explained_by}
 use Rattle.state_model.specs.MachineState.{initial_state}
 use Rattle.line_serving.specs.Operating.{Operates}
 use Rattle.module_works.proofs.lines_work.open_and_operate.Goals as goal
@@ -12,4 +13,4 @@ returns-clause-served g c =
     let By : ℕ → Type 0 = λ n. Explained (g.N.Noise.left c.args.noise.now) (g.N.Noise.left c.operate-answer.new.noise) (Operates g.E.Engine.calls c.operate-answer.result n s c.operate-answer.new.module
     (record { left = g.S.Source.left c.args.commands.now; gained = g.K.Sink.gained c.args.replies.now })
     (record { left = g.S.Source.left c.operate-answer.new.lines; gained = g.K.Sink.gained c.operate-answer.new.replies })) in
-    (c.operate-answer.new.module, subst By long (c.operate-answer.ensures.served s c.in_ok-module.ensures.represents))
+    (c.operate-answer.new.module, subst By long (explained_by _ _ c.operate-answer.ensures.served (λ events left operates. operates s c.in_ok-module.ensures.represents)))

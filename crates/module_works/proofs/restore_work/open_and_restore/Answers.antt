@@ -1,6 +1,7 @@
 use Rattle.std.proofs.Common.{◌≡◌, ℕ, ap, subst, length, ◌∙◌}
 use Rattle.std.proofs.lemmas.List.{length-replicate}
 use Rattle.outside.specs.Explained.{Explained}
+use Rattle.outside.proofs.Explanations.{explained_by}
 use Rattle.state_model.specs.MachineState.{initial_state}
 use Rattle.backup_runs.specs.Restoring.{RestoresAndOperates}
 use Rattle.module_works.proofs.restore_work.open_and_restore.Goals as goal
@@ -13,4 +14,4 @@ returns-clause-restored g c =
     (RestoresAndOperates g.E.Engine.calls c.restore_and_operate-answer.result n c.args.keys.now c.args.backup.now s c.restore_and_operate-answer.new.module
     (record { left = g.S.Source.left c.args.lines.now; gained = g.K.Sink.gained c.args.replies.now })
     (record { left = g.S.Source.left c.restore_and_operate-answer.new.lines; gained = g.K.Sink.gained c.restore_and_operate-answer.new.replies })) in
-    (c.restore_and_operate-answer.new.module, subst By long (c.restore_and_operate-answer.ensures.restored s c.in_ok-module.ensures.represents))
+    (c.restore_and_operate-answer.new.module, subst By long (explained_by _ _ c.restore_and_operate-answer.ensures.restored (λ events left restores. restores s c.in_ok-module.ensures.represents)))
