@@ -8,6 +8,7 @@ from backup_parts import (
     KEY_BYTES,
     LONGEST,
     MAC,
+    MAC_OF_ZERO,
     MOST_USES,
     NO_SLOT,
     OTHER_KEK,
@@ -23,7 +24,7 @@ from backup_parts import (
     wrapped,
 )
 from line_parts import Surprise, counted
-from machine_backups import BadBackup, joined, record, restored, signed
+from machine_backups import MAGIC, BadBackup, joined, record, restored, signed
 from machine_bodies import Kind, fits
 from machine_functions import aes
 from machine_lines import BAD_DIGEST
@@ -75,6 +76,11 @@ def other_lengths():
     rows += [(NO_SLOT[:-1], "form"), (NO_SLOT[1:], "form"), (NO_SLOT, None), (NO_SLOT + b"\0", "form"), (b"\0" + NO_SLOT, "form")]
     rows += [(LONGEST[:-1], "form"), (LONGEST[1:], "form"), (LONGEST, None), (bytes(36), "form"), (bytes(37), "form"), (bytes(1_317), "form")]
     return over("other_lengths", rows)
+
+
+def no_number():
+    """36 bytes, the magic bytes and their tag, of which the first byte is a zero: no number of records stands there."""
+    return Run(SLOT_2, ("restore", "keys_of_zero", "no_number", *PARTS), [SHOW_SLOT_2], [signed(MAC_OF_ZERO, MAGIC)], [BAD_BACKUP])
 
 
 def too_long():
@@ -189,7 +195,7 @@ def no_forms():
     """Words of no form: no file is looked at."""
     no_image, kept_words = ("image_that_is_not_there", "digest", "noise"), ("keys", "good_and_bad")
     words = [("backup", *some) for some in ((), ("keys",), PARTS, ("keys", *PARTS, "more"), ("keys", *no_image, "more"))]
-    words += [("restore", *some) for some in ((), ("keys",), kept_words, ("keys", *PARTS), (*kept_words, *PARTS[:2]), (*kept_words, *PARTS, "more"))]
+    words += [("restore", *some) for some in ((), ("keys",), kept_words, (*kept_words, *PARTS[:2]), (*kept_words, *PARTS, "more"))]
     words += [(name, "keys", *PARTS) for name in ("Backup", "backups", "back", "-")]
     words += [(name, *kept_words, *PARTS) for name in ("Restore", "restored", "backup")]
     return [refused(each, USAGE) for each in words]
@@ -215,5 +221,5 @@ def refused_files():
 
 
 FORMS = (
-    one_bit_turned, other_lengths, too_long, fields, lengths, other_forms, wrapped_parts, no_wrapping, other_tags, other_keys, no_forms, refused_files,
+    one_bit_turned, other_lengths, no_number, too_long, fields, lengths, other_forms, wrapped_parts, no_wrapping, other_tags, other_keys, no_forms, refused_files,
 )

@@ -3,7 +3,7 @@ from collections import namedtuple
 
 from line_parts import FILES as LINE_FILES
 from line_parts import Operator, counted
-from machine_backups import KEYS, halves, joined, record, restored, signed
+from machine_backups import KEYS, MAGIC, halves, joined, record, restored, signed
 from machine_bodies import Kind, fits
 from machine_functions import wrap
 from machine_lines import command
@@ -13,6 +13,8 @@ KEY_BYTES = counted(KEYS)
 KEK, MAC = halves(KEY_BYTES)
 OTHER_BYTES = bytes(range(100, 100 + KEYS))
 OTHER_KEK, OTHER_MAC = halves(OTHER_BYTES)
+# A key of the tag under which that of the magic bytes alone begins with a zero, which stands where the number of records does.
+MAC_OF_ZERO = next(mac for mac in (bytes([k]) * 32 for k in range(256)) if signed(mac, MAGIC)[4] == 0)
 NAMED = ("image", "image_changed", "digest", "digest_empty", "digest_of_63_digits", "noise", "noise_of_1407", "noise_of_1408", "noise_of_zeros")
 FILES = {
     **{name: LINE_FILES[name] for name in NAMED},
@@ -21,6 +23,7 @@ FILES = {
     "keys_with_another_kek": OTHER_KEK + MAC,
     "keys_with_another_mac": KEK + OTHER_MAC,
     "keys_exchanged": MAC + KEK,
+    "keys_of_zero": KEK + MAC_OF_ZERO,
     "keys_of_0": b"",
     "keys_of_32": KEK,
     "keys_of_63": KEY_BYTES[:-1],

@@ -100,7 +100,7 @@ MISTAKES = [
     ("keys that are none are bad", WORDS, "def look_at_keys(name, files):\n    refuse_where(name not in files, FILE_FAILED)", "def look_at_keys(name, files):\n    refuse_where(name not in files, BAD_KEYS)"),
     ("a backup that is none is bad", WORDS, "def look_at_backup(name, files):\n    refuse_where(name not in files, FILE_FAILED)", "def look_at_backup(name, files):\n    refuse_where(name not in files, BAD_BACKUP)"),
     ("a longer backup is read first", WORDS, "    refuse_where(len(files[name]) > LARGEST_BACKUP, BAD_BACKUP)\n", ""),
-    ("a longer backup is cut", WORDS, "restored(machine.slots, files[keys], files[kept])", "restored(machine.slots, files[keys], files[kept][:LARGEST_BACKUP])"),
+    ("a longer backup is cut", WORDS, "    refuse_where(len(files[name]) > LARGEST_BACKUP, BAD_BACKUP)\n", "    files[name] = files[name][:LARGEST_BACKUP]\n"),
     ("the longest backup is too long", WORDS, "len(files[name]) > LARGEST_BACKUP", "len(files[name]) >= LARGEST_BACKUP"),
     ("the backup is looked at before the keys", WORDS, LOOK_AT_BOTH, "[(look_at_backup, kept), (look_at_keys, keys)]"),
     ("keys are looked at before the digest", WORDS, "    refuse_where(digest is None, BAD_DIGEST)\n" + LOOK, LOOK + "    refuse_where(digest is None, BAD_DIGEST)\n"),
