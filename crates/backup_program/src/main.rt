@@ -91,7 +91,11 @@ fn have_each(
     backups: &[u8],
 ) -> Option<()> {
     let mut rest = backups;
-    while let [high, low, more @ ..] = rest {
+    // Each takes two bytes at least, so that these are turns enough.
+    for _ in 0..backups.len() {
+        let [high, low, more @ ..] = rest else {
+            return Some(());
+        };
         let length = usize::from(u16::from_be_bytes([*high, *low]));
         let (backup, others) = more.split_at_checked(length)?;
         have(rt, description, words, input, Some(backup))?;

@@ -208,16 +208,23 @@ fn serves_lines_from_what_was_restored(rt: HostRuntime) -> Result<(), Fail> {
     Ok(())
 }
 
+// Whether this backup is refused, and nothing is written then.
+fn is_refused(alloc: Global, backup: &[u8]) -> Result<bool, AllocError> {
+    let mut lines = lines_of(alloc, &[b"slot 2\n"])?;
+    let mut out = MemSink::new(alloc, 200, 50, Vec::new(alloc))?;
+    let answer = restored(alloc, backup, &mut lines, &mut out)?;
+    Ok(answer == (Restored::Refused, true) && out.bytes().is_empty())
+}
+
 #[test]
 fn refuses_a_changed_backup(rt: HostRuntime) -> Result<(), Fail> {
     let mut changed = ONE_KEY.to_vec(rt.alloc())?;
     changed[60] ^= 1;
-    for backup in [&changed[..], &ONE_KEY[..60], b"".as_slice()] {
-        let mut lines = lines_of(rt.alloc(), &[b"slot 2\n"])?;
-        let mut out = MemSink::new(rt.alloc(), 200, 50, Vec::new(rt.alloc()))?;
-        let answer = restored(rt.alloc(), backup, &mut lines, &mut out)?;
-        assert_eq!(rt; answer, (Restored::Refused, true));
-        assert_eq!(rt; out.bytes(), b"".as_slice());
-    }
+    let bit = is_refused(rt.alloc(), &changed)?;
+    assert!(rt; bit);
+    let short = is_refused(rt.alloc(), &ONE_KEY[..60])?;
+    assert!(rt; short);
+    let nothing = is_refused(rt.alloc(), b"")?;
+    assert!(rt; nothing);
     Ok(())
 }
